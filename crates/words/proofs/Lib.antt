@@ -1,0 +1,4 @@
+pub mod Spans
+pub mod Scans
+pub mod Writes
+pub mod Fields
