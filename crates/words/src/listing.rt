@@ -1,7 +1,7 @@
 // Listing words: a mark and fields, written at a place of a buffer.
 ghost use mathlib.Core.Path.{_≡_};
 ghost use mathlib.Core.List.{List, [], _∷_, _++_, map};
-ghost use Prim.Native.Nat.{_+_, _^_, _<_, _≤_};
+ghost use Prim.Native.Nat.{_+_, _<_, _≤_};
 ghost use lib.Dec.{leb};
 ghost use lib.ListN.{length};
 ghost use Rattle.std.specs.Written.{decimal, signed};
@@ -28,8 +28,7 @@ fn decimal_len(n: u32) -> usize
 }
 
 fn number_len(z: i32) -> usize
-    ensures value { λ r. ⌜ r ≡ length (signed z) ⌝ }
-    ensures bound { λ r. ⌜ r < 2 ^ 40 ⌝ }
+    ensures { λ r. ⌜ r ≡ length (signed z) ⌝ }
 {
     if z >= 0 {
         return decimal_len(z as u32);
@@ -38,8 +37,7 @@ fn number_len(z: i32) -> usize
 }
 
 fn field_len(field: Field) -> usize
-    ensures value { λ r. ⌜ r ≡ length (show-word (field-said field)) ⌝ }
-    ensures bound { λ r. ⌜ r < 2 ^ 40 ⌝ }
+    ensures { λ r. ⌜ r ≡ length (show-word (field-said field)) ⌝ }
 {
     match field {
         Field::Name(name) => name.as_bytes().len(),

@@ -1,12 +1,12 @@
 // Names and their bytes.
 ghost use mathlib.Core.Path.{_≡_};
 ghost use mathlib.Core.Bool.{cond};
-ghost use lib.ListN.{drop};
 ghost use Rattle.std.specs.Options.{mapped};
 ghost use Rattle.std.specs.declared.option.Option.the-variants.{Some, None};
-ghost use Rattle.words.specs.Names.{isName, lowers};
+ghost use Rattle.words.specs.Names.{isName};
 ghost use Rattle.words.specs.Spelled.{spelled};
 use crate::name::Name;
+use crate::reading::cut;
 
 // Whether the bytes are 1 to 8 lowercase letters.
 pub(crate) fn is_name(bytes: &[u8]) -> bool
@@ -34,13 +34,14 @@ impl Name {
         let len = bytes.len();
         let mut letters = [0; 8];
         letters[0..len].copy_from_slice(bytes);
-        Some(Name { letters, len })
+        Some(Name { letters })
     }
 
     // The bytes that spell it.
     pub fn as_bytes(&self) -> &[u8]
         ensures { λ r. ⌜ now r ≡ spelled (now (self .entry)) ⌝ }
     {
-        &self.letters[0..self.len]
+        let (letters, _) = cut(&self.letters, 0);
+        letters
     }
 }

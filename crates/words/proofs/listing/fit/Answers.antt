@@ -7,11 +7,10 @@ use Rattle.words.proofs.listing.fit.Needs as need
 
 pub returns-then-left-len : need.returns-then-left-len
 returns-then-left-len c =
-    sym (lt-leb _ _ (omega (arith, shown-room (c .args .fields .now) (c .loop-field .field-index) (c .field-item .result) (c .loop-field-test .taken) (c .field-item .is))))
+    sym (lt-leb _ _ (omega (arith, shown-room (c .args .fields .now) (c .loop-field .field-index) (c .loop-field-test .taken))))
 
 pub loop-field-again : need.loop-field-again
-loop-field-again c =
-    omega (arith, shown-len (c .args .fields .now) (c .loop-field .field-index) (c .field-item .result) (c .loop-field-test .taken) (c .field-item .is))
+loop-field-again c = omega (arith, shown-len (c .args .fields .now) (c .loop-field .field-index) (c .loop-field-test .taken))
 
 pub returns : need.returns
 returns c =

@@ -1,24 +1,19 @@
-use mathlib.Core.Path.{_≡_, refl, sym, ap, _∙_}
-use mathlib.Core.Bool.{true}
-use Prim.Native.Nat.{_≤_}
-use lib.ListN.{length, take}
+use mathlib.Core.Path.{_≡_, sym, ap, subst, _∙_}
+use mathlib.Core.Bool.{true, _&&_}
+use Prim.Native.Nat.{_-_}
+use lib.Dec.{leb}
+use lib.ListN.{length}
 use native.Mathlib.Omega.{arith}
-use Rattle.std.proofs.shelf.Lists.{take-at}
-use Rattle.std.proofs.shelf.Tests.{cond-true}
-use Rattle.std.proofs.shelf.Ways.{tells}
-use Rattle.std.specs.declared.option.Option.the-variants.{Some, None}
-use Rattle.words.specs.Names.{isName}
+use Rattle.std.proofs.shelf.Tests.{cond-true, and-parts}
+use Rattle.std.specs.declared.option.Option.the-variants.{Some}
+use Rattle.words.specs.Names.{isName, lowers}
+use Rattle.words.proofs.Spans.{Free, front, free-lowers, stops-zeros}
 use Rattle.words.proofs.name.Name.new.Needs as need
-
-pub ghost-result : need.ghost-result
-ghost-result c =
-    let e = c .copy-from-slice .ensures .after in
-    let test : isName (c .args .bytes .now) ≡ true = sym (c .if-not-is-name .ensures tt) in
-    let short : length (c .args .bytes .now) ≤ 8 = grind (arith, tells) in
-    (short, (ap isName (take-at (c .copy-from-slice .last .self) _ _ (ap length e) ∙ e) ∙ test, tt))
 
 pub returns : need.returns
 returns c =
+    let s = c .args .bytes .now in
     let e = c .copy-from-slice .ensures .after in
-    let test : isName (c .args .bytes .now) ≡ true = sym (c .if-not-is-name .ensures tt) in
-    ap Some (take-at (c .copy-from-slice .last .self) _ _ (ap length e) ∙ e) ∙ sym (cond-true (isName (c .args .bytes .now)) _ _ test)
+    let test : isName s ≡ true = sym (c .if-not-is-name .ensures tt) in
+    let low : lowers s ≡ true = and-parts (leb (length s) 8) (lowers s) (and-parts (leb 1 (length s)) (leb (length s) 8 && lowers s) test .1) .1 in
+    ap Some (front 0 (c .copy-from-slice .last .self) _ (subst (Free 0) (sym e) (free-lowers 0 s (omega arith) low)) (stops-zeros 8 (length s - 0)) ∙ e) ∙ sym (cond-true (isName s) _ _ test)

@@ -1,0 +1,3 @@
+pub mod Lines
+pub mod Shows
+pub mod Roles
