@@ -1,0 +1,4 @@
+-- The proofs of the laws, from numbers up to lines.
+pub mod Numbers
+pub mod WordLaws
+pub mod LineLaws
