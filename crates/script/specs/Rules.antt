@@ -5,6 +5,7 @@ use Prim.Native.Nat.{ℕ, _+_, _-_, suc}
 use lib.Dec.{eqb, leb, ltb}
 use Rattle.std.specs.shelf.Text.{sameBytes}
 use Rattle.std.specs.Options.{isSome}
+use Rattle.std.specs.Vec.{listOf}
 use Rattle.std.specs.declared.option.Option.{Option}
 use Rattle.std.specs.declared.option.Option.the-variants.{Some, None}
 use Rattle.words.specs.declared.name.Name.{Name}
@@ -85,33 +86,33 @@ pub record Standing : Type 0 where
 abbrev pub fresh : Standing
 fresh = record { tally = nothing; channels = []; bodies = [] }
 
--- channels have one space of names, routines another
+-- the name that a line declares for a channel, and for a body
+abbrev pub declares : {N : Type 0} → Role N → Option N
+declares (Declares k x n) = Some x
+declares (Opens x) = None
+declares (Selects n) = None
+declares Acts = None
+declares Case = None
+declares Default = None
+
+abbrev pub opens : {N : Type 0} → Role N → Option N
+opens (Declares k x n) = None
+opens (Opens x) = Some x
+opens (Selects n) = None
+opens Acts = None
+opens Case = None
+opens Default = None
+
+abbrev pub known : Option (List ℕ) → List (List ℕ) → Bool
+known None xs = false
+known (Some x) xs = isSome (place x xs)
+
+-- channels have one space of names, bodies another
 abbrev pub twice : Standing → Role (List ℕ) → Bool
-twice s (Declares k x n) = isSome (place x (s .channels))
-twice s (Opens x) = isSome (place x (s .bodies))
-twice s (Selects n) = false
-twice s Acts = false
-twice s Case = false
-twice s Default = false
-
-abbrev pub more-channels : List (List ℕ) → Role (List ℕ) → List (List ℕ)
-more-channels xs (Declares k x n) = xs ++ (x ∷ [])
-more-channels xs (Opens x) = xs
-more-channels xs (Selects n) = xs
-more-channels xs Acts = xs
-more-channels xs Case = xs
-more-channels xs Default = xs
-
-abbrev pub more-bodies : List (List ℕ) → Role (List ℕ) → List (List ℕ)
-more-bodies xs (Declares k x n) = xs
-more-bodies xs (Opens x) = xs ++ (x ∷ [])
-more-bodies xs (Selects n) = xs
-more-bodies xs Acts = xs
-more-bodies xs Case = xs
-more-bodies xs Default = xs
+twice s r = known (declares r) (s .channels) || known (opens r) (s .bodies)
 
 abbrev pub standing : Standing → Role (List ℕ) → Standing
-standing s r = record { tally = after (s .tally) r; channels = more-channels (s .channels) r; bodies = more-bodies (s .bodies) r }
+standing s r = record { tally = after (s .tally) r; channels = s .channels ++ listOf (declares r); bodies = s .bodies ++ listOf (opens r) }
 
 -- the lowest refusal of a line; case lines still due after the last line are a fault of that line
 abbrev pub judge : Standing → Role (List ℕ) → Bool → Option Refusal

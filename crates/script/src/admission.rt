@@ -2,12 +2,16 @@
 ghost use mathlib.Core.Path.{_≡_};
 ghost use mathlib.Core.Bool.{false};
 ghost use Rattle.std.specs.Vec.{made};
-ghost use Rattle.std.specs.declared.option.Option.the-variants.{None};
-ghost use Rattle.script.specs.Rules.{fresh, role-of, full, misplaced, twice, judge};
-ghost use Rattle.script.specs.Drafts.{seen, Blank};
+ghost use Rattle.lines.specs.Lines.{line-of};
+ghost use Rattle.script.specs.Rules.{role-of, full, twice as isTwice, judge as judged};
+ghost use Rattle.script.specs.Drafts.{seen, Blank, Added};
 use crate::draft::Draft;
-use crate::lookup::find;
+use crate::lookup::declared;
+use crate::lookup::enter;
+use crate::lookup::known;
+use crate::lookup::opened;
 use crate::tally::Tally;
+use lines::Line;
 use lines::Role;
 use std::alloc::AllocError;
 use std::alloc::Global;
@@ -37,12 +41,38 @@ impl Draft {
 
     // Whether the line declares a name again.
     fn twice(&self, role: Role<Name>) -> bool
-        ensures { λ r. ⌜ r ≡ twice (seen (now (self .entry))) (role-of role) ⌝ }
+        ensures { λ r. ⌜ r ≡ isTwice (seen (now (self .entry))) (role-of role) ⌝ }
     {
-        match role {
-            Role::Declares(_, name, _) => find(&self.channels, &name).is_some(),
-            Role::Opens(name) => find(&self.bodies, &name).is_some(),
-            Role::Selects(_) | Role::Acts | Role::Case | Role::Default => false,
+        known(&self.channels, declared(role)) || known(&self.bodies, opened(role))
+    }
+
+    // Why a line of that role is refused, if it is.
+    fn judge(&self, role: Role<Name>, last: bool) -> Option<Refusal>
+        ensures { λ r. ⌜ r ≡ judged (seen (now (self .entry))) (role-of role) last ⌝ }
+    {
+        if self.tally.misplaced(role) {
+            return Some(Refusal::Misplaced);
         }
+        if last && self.tally.leaves_due(role) {
+            return Some(Refusal::Misplaced);
+        }
+        if self.tally.full(role) {
+            return Some(Refusal::Full);
+        }
+        if self.twice(role) {
+            return Some(Refusal::Twice);
+        }
+        None
+    }
+
+    // Takes the line in.
+    fn add(&mut self, line: Line<Name>, role: Role<Name>)
+        requires { ⌜ full (now self .tally) (role-of role) ≡ false ⌝ }
+        ensures { λ _. ⌜ Added (now (self .entry)) (line-of line) (role-of role) (now (self .exit)) ⌝ }
+    {
+        enter(&mut self.channels, declared(role));
+        enter(&mut self.bodies, opened(role));
+        self.lines.push_reserved(line);
+        self.tally = self.tally.after(role);
     }
 }

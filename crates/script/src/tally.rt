@@ -81,6 +81,18 @@ impl Tally {
         }
     }
 
+    // Whether case lines are still due after a line of that role.
+    pub fn leaves_due(self, role: Role<Name>) -> bool
+        ensures { λ r. ⌜ r ≡ ltb 0 (afterLine self (role-of role) .due) ⌝ }
+    {
+        match role {
+            Role::Declares(_, _, _) => self.due > 0,
+            Role::Opens(_) | Role::Acts => false,
+            Role::Selects(cases) => cases > 0,
+            Role::Case | Role::Default => self.due > 1,
+        }
+    }
+
     // One more channel of that kind.
     fn declared(self, kind: Kind, capacity: u32) -> Tally
         requires few { ⌜ self .channels < 32 ⌝ }
