@@ -1,2 +1,5 @@
 pub mod Places
 pub mod Stands
+pub mod Pieces
+pub mod Readings
+pub mod Relisting

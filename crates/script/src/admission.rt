@@ -4,7 +4,7 @@ ghost use mathlib.Core.Bool.{false};
 ghost use Rattle.std.specs.Vec.{made};
 ghost use Rattle.lines.specs.Lines.{line-of};
 ghost use Rattle.script.specs.Rules.{role-of, full, twice as isTwice, judge as judged};
-ghost use Rattle.script.specs.Drafts.{seen, Blank, Added};
+ghost use Rattle.script.specs.Drafts.{seen, Blank, Added, Admits};
 use crate::draft::Draft;
 use crate::lookup::declared;
 use crate::lookup::enter;
@@ -15,6 +15,7 @@ use lines::Line;
 use lines::Role;
 use std::alloc::AllocError;
 use std::alloc::Global;
+use words::Fault;
 use words::Name;
 use words::Refusal;
 
@@ -74,5 +75,17 @@ impl Draft {
         enter(&mut self.bodies, opened(role));
         self.lines.push_reserved(line);
         self.tally = self.tally.after(role);
+    }
+
+    // Takes in line `number`, if nothing speaks against it.
+    pub fn admit(&mut self, line: Line<Name>, number: usize, last: bool) -> Result<(), Fault>
+        ensures { λ r. ⌜ Admits (now (self .entry)) (line-of line) number last (now (self .exit)) r ⌝ }
+    {
+        let role = line.role();
+        if let Some(refusal) = self.judge(role, last) {
+            return Err(Fault { refusal, line: number });
+        }
+        self.add(line, role);
+        Ok(())
     }
 }
