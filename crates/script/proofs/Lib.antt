@@ -3,3 +3,4 @@ pub mod Stands
 pub mod Pieces
 pub mod Readings
 pub mod Relisting
+pub mod Showing
