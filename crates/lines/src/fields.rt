@@ -23,7 +23,7 @@ fn field(rest: &[u8], line: usize) -> Result<(Word<'_>, &[u8]), Fault>
     }
 }
 
-pub fn value_field(rest: &[u8], line: usize) -> Result<(u8, &[u8]), Fault>
+pub(crate) fn value_field(rest: &[u8], line: usize) -> Result<(u8, &[u8]), Fault>
     ensures { λ r. ⌜ unlent (λ x. x) r ≡ only as-value line (now (rest .entry)) ⌝ }
 {
     match field(rest, line)? {
@@ -32,7 +32,7 @@ pub fn value_field(rest: &[u8], line: usize) -> Result<(u8, &[u8]), Fault>
     }
 }
 
-pub fn handle_field(rest: &[u8], line: usize) -> Result<(u8, &[u8]), Fault>
+pub(crate) fn handle_field(rest: &[u8], line: usize) -> Result<(u8, &[u8]), Fault>
     ensures { λ r. ⌜ unlent (λ x. x) r ≡ only as-handle line (now (rest .entry)) ⌝ }
 {
     match field(rest, line)? {
@@ -41,7 +41,7 @@ pub fn handle_field(rest: &[u8], line: usize) -> Result<(u8, &[u8]), Fault>
     }
 }
 
-pub fn integer_field(rest: &[u8], line: usize) -> Result<(i32, &[u8]), Fault>
+pub(crate) fn integer_field(rest: &[u8], line: usize) -> Result<(i32, &[u8]), Fault>
     ensures { λ r. ⌜ unlent (λ x. x) r ≡ only as-integer line (now (rest .entry)) ⌝ }
 {
     match field(rest, line)? {
@@ -51,7 +51,7 @@ pub fn integer_field(rest: &[u8], line: usize) -> Result<(i32, &[u8]), Fault>
 }
 
 // A number without a minus.
-pub fn natural_field(rest: &[u8], line: usize) -> Result<(u32, &[u8]), Fault>
+pub(crate) fn natural_field(rest: &[u8], line: usize) -> Result<(u32, &[u8]), Fault>
     ensures { λ r. ⌜ unlent (λ x. x) r ≡ only as-natural line (now (rest .entry)) ⌝ }
 {
     match field(rest, line)? {
@@ -70,7 +70,7 @@ fn held(bytes: &[u8], line: usize) -> Result<Name, Fault>
     }
 }
 
-pub fn name_field(rest: &[u8], line: usize) -> Result<(Name, &[u8]), Fault>
+pub(crate) fn name_field(rest: &[u8], line: usize) -> Result<(Name, &[u8]), Fault>
     ensures { λ r. ⌜ unlent spelled r ≡ only as-name line (now (rest .entry)) ⌝ }
 {
     match field(rest, line)? {
@@ -79,7 +79,7 @@ pub fn name_field(rest: &[u8], line: usize) -> Result<(Name, &[u8]), Fault>
     }
 }
 
-pub fn operand_field(rest: &[u8], line: usize) -> Result<(Operand<Name>, &[u8]), Fault>
+pub(crate) fn operand_field(rest: &[u8], line: usize) -> Result<(Operand<Name>, &[u8]), Fault>
     ensures { λ r. ⌜ unlent operand-of r ≡ only as-operand line (now (rest .entry)) ⌝ }
 {
     match field(rest, line)? {
@@ -89,7 +89,7 @@ pub fn operand_field(rest: &[u8], line: usize) -> Result<(Operand<Name>, &[u8]),
     }
 }
 
-pub fn two_values(rest: &[u8], line: usize) -> Result<((u8, u8), &[u8]), Fault>
+pub(crate) fn two_values(rest: &[u8], line: usize) -> Result<((u8, u8), &[u8]), Fault>
     ensures { λ r. ⌜ unlent (λ x. x) r ≡ two-values line (now (rest .entry)) ⌝ }
 {
     let (v, rest) = value_field(rest, line)?;
@@ -97,7 +97,7 @@ pub fn two_values(rest: &[u8], line: usize) -> Result<((u8, u8), &[u8]), Fault>
     Ok(((v, w), rest))
 }
 
-pub fn handle_and_value(rest: &[u8], line: usize) -> Result<((u8, u8), &[u8]), Fault>
+pub(crate) fn handle_and_value(rest: &[u8], line: usize) -> Result<((u8, u8), &[u8]), Fault>
     ensures { λ r. ⌜ unlent (λ x. x) r ≡ handle-and-value line (now (rest .entry)) ⌝ }
 {
     let (h, rest) = handle_field(rest, line)?;
@@ -106,7 +106,7 @@ pub fn handle_and_value(rest: &[u8], line: usize) -> Result<((u8, u8), &[u8]), F
 }
 
 // The end of the line.
-pub fn end(rest: &[u8], line: usize) -> Result<(), Fault>
+pub(crate) fn end(rest: &[u8], line: usize) -> Result<(), Fault>
     ensures { λ r. ⌜ r ≡ ended line tt (now (rest .entry)) ⌝ }
 {
     match rest {

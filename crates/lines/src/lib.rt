@@ -4,6 +4,7 @@ mod line;
 mod listing;
 mod reading;
 mod roles;
+
 pub use line::Kind;
 pub use line::Line;
 pub use line::Operand;

@@ -14,7 +14,10 @@ impl<N: Copy> Line<N> {
             Line::HandleChannel(name, capacity) => Role::Declares(Kind::Handle, name, capacity),
             Line::Routine(name) => Role::Opens(name),
             Line::Select(cases) => Role::Selects(cases),
-            Line::CaseSend(_, _, _) | Line::CaseReceive(_, _, _, _) | Line::CaseSendHandle(_, _, _) | Line::CaseReceiveHandle(_, _, _, _) => Role::Case,
+            Line::CaseSend(_, _, _)
+            | Line::CaseReceive(_, _, _, _)
+            | Line::CaseSendHandle(_, _, _)
+            | Line::CaseReceiveHandle(_, _, _, _) => Role::Case,
             Line::CaseDefault(_) => Role::Default,
             _ => Role::Acts,
         }

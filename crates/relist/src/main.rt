@@ -37,7 +37,8 @@ fn print_refused(rt: &LibcRuntime, fault: Fault) -> io::Result<()> {
 
 fn main(rt: LibcRuntime) -> io::Result<()> {
     let text = input(&rt)?;
-    match Empty::new(rt.alloc())?.read(&text) {
+    let empty = Empty::new(rt.alloc())?;
+    match empty.read(&text) {
         Ok(script) => print_listing(&rt, &script, text.len()),
         Err(refused) => print_refused(&rt, refused.fault),
     }

@@ -36,10 +36,10 @@ module _ (x : List ℕ) (ns : List Name) (i : ℕ) where
       ap (later i) (at-drop-more (λ l. place x (map spelled l)) ns i unset h)
       ∙ ap (λ t. later i (cond t (Some 0) (further (place x (map spelled (drop (i + 1) ns)))))) e
       ∙ by b
-      where
-        by : (t : Bool) → later i (cond t (Some 0) (further (place x (map spelled (drop (i + 1) ns))))) ≡ cond t (Some i) (from (i + 1))
-        by true = let e : i + 0 ≡ i = omega arith in ap Some e
-        by false = later-further i (place x (map spelled (drop (i + 1) ns)))
+    where
+      by : (t : Bool) → later i (cond t (Some 0) (further (place x (map spelled (drop (i + 1) ns))))) ≡ cond t (Some i) (from (i + 1))
+      by true = let e : i + 0 ≡ i = omega arith in ap Some e
+      by false = later-further i (place x (map spelled (drop (i + 1) ns)))
 
   pub find-none : length ns ≤ i → from i ≡ None
   find-none h = ap (later i) (at-drop-all (λ l. place x (map spelled l)) ns i h)

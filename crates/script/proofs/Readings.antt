@@ -103,10 +103,11 @@ module _ (d : Draft) (n : ℕ) (t line rest : List ℕ) (front : ended n t ≡ O
 
     pub line-taken : (d′ : Draft) → judge (seen d) (role l) (eqb (length rest) 0) ≡ None → Added d l (role l) d′ → (reading d n t ≡ reading d′ (n + 1) rest) × (length rest < length t)
     line-taken d′ h a =
-        let p = ended-some n t line rest front in
-        (at-judge
-        ∙ ap (λ o. behind (lines-of d) (admitted o n l (read-on (n + 1) (standing (seen d) (role l)) (pieces rest)))) h
-        ∙ behind-more (lines-of d) l n (read-on (n + 1) (standing (seen d) (role l)) (pieces rest))
-        ∙ ap (λ ls. behind ls (read-on (n + 1) (standing (seen d) (role l)) (pieces rest))) (sym (a .more))
-        ∙ ap (λ s. behind (lines-of d′) (read-on (n + 1) s (pieces rest))) (sym (a .stands)),
-        omega (arith, p .0, ap length (p .2), length-drop (span 10 t + 1) t))
+        let p = ended-some n t line rest front in (
+          at-judge
+              ∙ ap (λ o. behind (lines-of d) (admitted o n l (read-on (n + 1) (standing (seen d) (role l)) (pieces rest)))) h
+              ∙ behind-more (lines-of d) l n (read-on (n + 1) (standing (seen d) (role l)) (pieces rest))
+              ∙ ap (λ ls. behind ls (read-on (n + 1) (standing (seen d) (role l)) (pieces rest))) (sym (a .more))
+              ∙ ap (λ s. behind (lines-of d′) (read-on (n + 1) s (pieces rest))) (sym (a .stands)),
+          omega (arith, p .0, ap length (p .2), length-drop (span 10 t + 1) t),
+        )

@@ -39,9 +39,9 @@ shown-more ls i d h =
 shown-le : (ls : List (Line Name)) (i : ℕ) → length (shown ls i) ≤ length (show (map line-of ls))
 shown-le ls i =
     let e : show (map line-of ls) ≡ shown ls i ++ show (map line-of (drop i ls)) =
-        ap (λ l. show (map line-of l)) (sym (take-append-drop i ls))
-        ∙ ap show (map-append line-of (take i ls) (drop i ls))
-        ∙ show-append (map line-of (take i ls)) (map line-of (drop i ls)) in
+    ap (λ l. show (map line-of l)) (sym (take-append-drop i ls))
+    ∙ ap show (map-append line-of (take i ls) (drop i ls))
+    ∙ show-append (map line-of (take i ls)) (map line-of (drop i ls)) in
     omega (arith, ap length e, length-append (shown ls i) (show (map line-of (drop i ls))))
 
 -- there is room for the next and its end

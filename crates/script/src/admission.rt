@@ -21,17 +21,22 @@ use words::Refusal;
 
 impl Draft {
     // A draft with nothing in it.
-    pub fn new(heap: Global) -> Result<Draft, AllocError>
+    pub(crate) fn new(heap: Global) -> Result<Draft, AllocError>
         ensures { λ r. ⌜ made r Blank ⌝ }
     {
         let lines = Vec::with_capacity(heap, 576)?;
         let channels = Vec::with_capacity(heap, 32)?;
         let bodies = Vec::with_capacity(heap, 32)?;
-        Ok(Draft { lines, channels, bodies, tally: Tally::none() })
+        Ok(Draft {
+            lines,
+            channels,
+            bodies,
+            tally: Tally::none(),
+        })
     }
 
     // Leaves nothing in it.
-    pub fn clear(&mut self)
+    pub(crate) fn clear(&mut self)
         ensures { λ _. ⌜ Blank (now (self .exit)) ⌝ }
     {
         self.lines.clear();
@@ -78,12 +83,15 @@ impl Draft {
     }
 
     // Takes in line `number`, if nothing speaks against it.
-    pub fn admit(&mut self, line: Line<Name>, number: usize, last: bool) -> Result<(), Fault>
+    pub(crate) fn admit(&mut self, line: Line<Name>, number: usize, last: bool) -> Result<(), Fault>
         ensures { λ r. ⌜ Admits (now (self .entry)) (line-of line) number last (now (self .exit)) r ⌝ }
     {
         let role = line.role();
         if let Some(refusal) = self.judge(role, last) {
-            return Err(Fault { refusal, line: number });
+            return Err(Fault {
+                refusal,
+                line: number,
+            });
         }
         self.add(line, role);
         Ok(())

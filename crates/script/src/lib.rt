@@ -7,6 +7,7 @@ mod reading;
 mod state;
 mod tally;
 mod text;
+
 pub use state::Empty;
 pub use state::Read;
 pub use state::Unread;

@@ -20,7 +20,7 @@ fn same(a: &Name, b: &Name) -> bool
 }
 
 // The first place at which the name stands.
-pub fn find(names: &[Name], name: &Name) -> Option<usize>
+pub(crate) fn find(names: &[Name], name: &Name) -> Option<usize>
     ensures { λ r. ⌜ r ≡ place (spelled (now (name .entry))) (map spelled (now (names .entry))) ⌝ }
 {
     for (i, other) in names.iter().enumerate() {
@@ -32,7 +32,7 @@ pub fn find(names: &[Name], name: &Name) -> Option<usize>
 }
 
 // Whether there is a name, and it stands among the names.
-pub fn known(names: &[Name], name: Option<Name>) -> bool
+pub(crate) fn known(names: &[Name], name: Option<Name>) -> bool
     ensures { λ r. ⌜ r ≡ isKnown (mapped spelled name) (map spelled (now (names .entry))) ⌝ }
 {
     match name {
@@ -42,7 +42,7 @@ pub fn known(names: &[Name], name: Option<Name>) -> bool
 }
 
 // Puts the name, if there is one, after the others.
-pub fn enter(names: &mut Vec<Name>, name: Option<Name>)
+pub(crate) fn enter(names: &mut Vec<Name>, name: Option<Name>)
     requires { ⌜ vec-len (now names) + length (listOf name) ≤ vec-cap (now names) ⌝ }
     ensures items { λ _. ⌜ vec-items (now (names .exit)) ≡ vec-items (now (names .entry)) ++ listOf name ⌝ }
     ensures len { λ _. ⌜ vec-len (now (names .exit)) ≡ vec-len (now (names .entry)) + length (listOf name) ⌝ }
@@ -54,7 +54,7 @@ pub fn enter(names: &mut Vec<Name>, name: Option<Name>)
 }
 
 // The name that the line declares for a channel.
-pub fn declared(role: Role<Name>) -> Option<Name>
+pub(crate) fn declared(role: Role<Name>) -> Option<Name>
     ensures { λ r. ⌜ r ≡ declares role ⌝ }
 {
     match role {
@@ -64,7 +64,7 @@ pub fn declared(role: Role<Name>) -> Option<Name>
 }
 
 // The name that the line declares for a body.
-pub fn opened(role: Role<Name>) -> Option<Name>
+pub(crate) fn opened(role: Role<Name>) -> Option<Name>
     ensures { λ r. ⌜ r ≡ opens role ⌝ }
 {
     match role {

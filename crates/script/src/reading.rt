@@ -2,6 +2,7 @@
 ghost use mathlib.Core.Path.{_≡_};
 ghost use Rattle.std.specs.Vec.{made};
 ghost use Rattle.script.specs.Texts.{read-script};
+ghost use Rattle.script.specs.Drafts.{Blank};
 ghost use Rattle.script.specs.States.{answer, Listed-back};
 use crate::draft::Draft;
 use crate::state::Empty;
@@ -14,7 +15,9 @@ use words::Refusal;
 
 impl Empty {
     // An empty script, unless memory is wanting.
-    pub fn new(heap: Global) -> Result<Empty, AllocError> {
+    pub fn new(heap: Global) -> Result<Empty, AllocError>
+        ensures { λ r. ⌜ made r (λ e. Blank (e .draft)) ⌝ }
+    {
         let draft = Draft::new(heap)?;
         Ok(Empty { draft })
     }
@@ -25,15 +28,27 @@ impl Empty {
         ensures listed { λ r. ⌜ made r (λ s. Listed-back s (now (text .entry))) ⌝ }
     {
         if text.len() > 32768 {
-            let fault = Fault { refusal: Refusal::Overlong, line: 0 };
-            return Err(Unread { script: self, fault });
+            let fault = Fault {
+                refusal: Refusal::Overlong,
+                line: 0,
+            };
+            return Err(Unread {
+                script: self,
+                fault,
+            });
         }
         let Empty { mut draft } = self;
         match draft.read_text(text) {
-            Ok(()) => Ok(Read { draft, size: text.len() }),
+            Ok(()) => Ok(Read {
+                draft,
+                size: text.len(),
+            }),
             Err(fault) => {
                 draft.clear();
-                Err(Unread { script: Empty { draft }, fault })
+                Err(Unread {
+                    script: Empty { draft },
+                    fault,
+                })
             }
         }
     }

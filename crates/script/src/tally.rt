@@ -33,10 +33,18 @@ fn cells(kind: Kind) -> u32
 }
 
 impl Tally {
-    pub fn none() -> Tally
+    pub(crate) fn none() -> Tally
         ensures { λ r. ⌜ r ≡ nothing ⌝ }
     {
-        Tally { channels: 0, bodies: 0, lines: 0, values: 0, handles: 0, due: 0, defaulted: false }
+        Tally {
+            channels: 0,
+            bodies: 0,
+            lines: 0,
+            values: 0,
+            handles: 0,
+            due: 0,
+            defaulted: false,
+        }
     }
 
     // The capacities of that kind together.
@@ -57,7 +65,7 @@ impl Tally {
     }
 
     // Whether a line of that role stands in the wrong part.
-    pub fn misplaced(self, role: Role<Name>) -> bool
+    pub(crate) fn misplaced(self, role: Role<Name>) -> bool
         ensures { λ r. ⌜ r ≡ isMisplaced self (role-of role) ⌝ }
     {
         match role {
@@ -70,11 +78,13 @@ impl Tally {
     }
 
     // Whether a line of that role passes a limit.
-    pub fn full(self, role: Role<Name>) -> bool
+    pub(crate) fn full(self, role: Role<Name>) -> bool
         ensures { λ r. ⌜ r ≡ isFull self (role-of role) ⌝ }
     {
         match role {
-            Role::Declares(kind, _, capacity) => self.channels >= 32 || capacity > 64 || self.overfilled(kind, capacity),
+            Role::Declares(kind, _, capacity) => self.channels >= 32
+                || capacity > 64
+                || self.overfilled(kind, capacity),
             Role::Opens(_) => self.bodies >= 32,
             Role::Selects(cases) => self.lines >= 512 || cases > 8,
             Role::Acts | Role::Case | Role::Default => self.lines >= 512,
@@ -82,7 +92,7 @@ impl Tally {
     }
 
     // Whether case lines are still due after a line of that role.
-    pub fn leaves_due(self, role: Role<Name>) -> bool
+    pub(crate) fn leaves_due(self, role: Role<Name>) -> bool
         ensures { λ r. ⌜ r ≡ ltb 0 (afterLine self (role-of role) .due) ⌝ }
     {
         match role {
@@ -101,23 +111,53 @@ impl Tally {
     {
         let channels = self.channels + 1;
         match kind {
-            Kind::Value => Tally { channels, values: self.values + capacity, ..self },
-            Kind::Handle => Tally { channels, handles: self.handles + capacity, ..self },
+            Kind::Value => Tally {
+                channels,
+                values: self.values + capacity,
+                ..self
+            },
+            Kind::Handle => Tally {
+                channels,
+                handles: self.handles + capacity,
+                ..self
+            },
         }
     }
 
     // What a line of that role makes of it.
-    pub fn after(self, role: Role<Name>) -> Tally
+    pub(crate) fn after(self, role: Role<Name>) -> Tally
         requires { ⌜ isFull self (role-of role) ≡ false ⌝ }
         ensures { λ r. ⌜ r ≡ afterLine self (role-of role) ⌝ }
     {
         match role {
             Role::Declares(kind, _, capacity) => self.declared(kind, capacity),
-            Role::Opens(_) => Tally { bodies: self.bodies + 1, due: 0, ..self },
-            Role::Selects(cases) => Tally { lines: self.lines + 1, due: cases, defaulted: false, ..self },
-            Role::Acts => Tally { lines: self.lines + 1, due: 0, ..self },
-            Role::Case => Tally { lines: self.lines + 1, due: self.due.saturating_sub(1), ..self },
-            Role::Default => Tally { lines: self.lines + 1, due: self.due.saturating_sub(1), defaulted: true, ..self },
+            Role::Opens(_) => Tally {
+                bodies: self.bodies + 1,
+                due: 0,
+                ..self
+            },
+            Role::Selects(cases) => Tally {
+                lines: self.lines + 1,
+                due: cases,
+                defaulted: false,
+                ..self
+            },
+            Role::Acts => Tally {
+                lines: self.lines + 1,
+                due: 0,
+                ..self
+            },
+            Role::Case => Tally {
+                lines: self.lines + 1,
+                due: self.due.saturating_sub(1),
+                ..self
+            },
+            Role::Default => Tally {
+                lines: self.lines + 1,
+                due: self.due.saturating_sub(1),
+                defaulted: true,
+                ..self
+            },
         }
     }
 }

@@ -33,7 +33,7 @@ impl Draft {
     }
 
     // Reads all lines of the text, up to the first fault.
-    pub fn read_text(&mut self, text: &[u8]) -> Result<(), Fault>
+    pub(crate) fn read_text(&mut self, text: &[u8]) -> Result<(), Fault>
         ensures { λ r. ⌜ outcome r (now (self .exit)) ≡ reading (now (self .entry)) 1 (now (text .entry)) ⌝ }
     {
         let mut rest = text;

@@ -38,9 +38,9 @@ module _ (ws : List Field) (i : ℕ) (h : i < length ws) where
 pub shown-le : (ws : List Field) (i : ℕ) → length (shown ws i) ≤ length (show-fields (map field-said ws))
 shown-le ws i =
     let e : show-fields (map field-said ws) ≡ shown ws i ++ show-fields (map field-said (drop i ws)) =
-        ap (λ l. show-fields (map field-said l)) (sym (take-append-drop i ws))
-        ∙ ap show-fields (map-append field-said (take i ws) (drop i ws))
-        ∙ fields-append (map field-said (take i ws)) (map field-said (drop i ws)) in
+    ap (λ l. show-fields (map field-said l)) (sym (take-append-drop i ws))
+    ∙ ap show-fields (map-append field-said (take i ws) (drop i ws))
+    ∙ fields-append (map field-said (take i ws)) (map field-said (drop i ws)) in
     omega (arith, ap length e, length-append (shown ws i) (show-fields (map field-said (drop i ws))))
 
 -- there is room for the next

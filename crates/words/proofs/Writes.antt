@@ -43,10 +43,10 @@ unfolding written
 written-written xs at ys zs h =
     let front = take-written xs at ys h in
     let back : drop (at + length ys + length zs) (written xs at ys) ≡ drop (at + length (ys ++ zs)) xs =
-        sym (drop-drop (length zs) (at + length ys) (written xs at ys))
-        ∙ ap (drop (length zs)) (drop-written xs at ys h)
-        ∙ drop-drop (length zs) (at + length ys) xs
-        ∙ ap (λ n. drop n xs) (simp length-append (omega arith)) in
+    sym (drop-drop (length zs) (at + length ys) (written xs at ys))
+    ∙ ap (drop (length zs)) (drop-written xs at ys h)
+    ∙ drop-drop (length zs) (at + length ys) xs
+    ∙ ap (λ n. drop n xs) (simp length-append (omega arith)) in
     ap (λ l. l ++ (zs ++ drop (at + length ys + length zs) (written xs at ys))) front
     ∙ ap (λ l. (take at xs ++ ys) ++ (zs ++ l)) back
     ∙ simp append-assoc

@@ -4,6 +4,7 @@ mod name;
 mod reading;
 mod refusal;
 mod spelling;
+
 pub use listing::Field;
 pub use listing::put_fields;
 pub use name::Name;

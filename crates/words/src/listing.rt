@@ -147,7 +147,12 @@ fn put_all(out: &mut [u8], at: usize, mark: &[u8], fields: &[Field]) -> usize
 }
 
 // Writes a mark and its fields at `at`, and answers where they end; writes nothing where they do not fit.
-pub fn put_fields(out: &mut [u8], at: usize, mark: &[u8], fields: &[Field]) -> Result<usize, Refusal>
+pub fn put_fields(
+    out: &mut [u8],
+    at: usize,
+    mark: &[u8],
+    fields: &[Field],
+) -> Result<usize, Refusal>
     ensures { λ r. ⌜ Put (now (out .entry)) at (now (mark .entry) ++ show-fields (map field-said (now (fields .entry)))) (now (out .exit)) r ⌝ }
 {
     let room = out.len();

@@ -49,6 +49,9 @@ impl Fault {
     pub fn broken(line: usize) -> Fault
         ensures { λ r. ⌜ r ≡ brokenAt line ⌝ }
     {
-        Fault { refusal: Refusal::Broken, line }
+        Fault {
+            refusal: Refusal::Broken,
+            line,
+        }
     }
 }

@@ -11,6 +11,6 @@ returns-in-Break-end c =
     let n = c .args .line in
     rw (p .1, p .2)
     (whole-bad n (both (only as-name) (both handle-and-value (only as-natural))) (λ p. CaseReceiveHandle (p .0) (p .1 .0 .0) (p .1 .0 .1) (p .1 .1)) (c .args .rest .now) _ _ _
-        (both-ok n (only as-name) (both handle-and-value (only as-natural)) (c .args .rest .now) _ _ _ _ (c .in-Continue-a .ensures tt)
-            (both-ok n handle-and-value (only as-natural) (c .in-Continue-a .rest .now) _ _ _ _ (c .in-Continue-b .ensures tt) (c .in-Continue-d .ensures tt)))
-        (c .in-Break-end .ensures tt))
+    (both-ok n (only as-name) (both handle-and-value (only as-natural)) (c .args .rest .now) _ _ _ _ (c .in-Continue-a .ensures tt)
+    (both-ok n handle-and-value (only as-natural) (c .in-Continue-a .rest .now) _ _ _ _ (c .in-Continue-b .ensures tt) (c .in-Continue-d .ensures tt)))
+    (c .in-Break-end .ensures tt))

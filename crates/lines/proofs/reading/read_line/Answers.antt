@@ -82,7 +82,7 @@ returns-in-82-3 c = c .read-routine .ensures ∙ at-mark (c .args .line) (c .arg
 pub returns-in-rest : need.returns-in-rest
 returns-in-rest c =
     elim (c .in-rest .came) [
-      in-rest·by·then-bytes-lt2 w ↦ let z : getD (c .args .bytes .now) 1 0 ≡ 0 = getD-past (c .args .bytes .now) 1 0 (omega (arith, ltb-true)) in rw z (ap Err (c .broken .ensures) ∙ sym (no-mark formats marked (c .args .line) (getD (c .args .bytes .now) 0 0) (drop 2 (c .args .bytes .now))))
+      | in-rest·by·then-bytes-lt2 w ↦ let z : getD (c .args .bytes .now) 1 0 ≡ 0 = getD-past (c .args .bytes .now) 1 0 (omega (arith, ltb-true)) in rw z (ap Err (c .broken .ensures) ∙ sym (no-mark formats marked (c .args .line) (getD (c .args .bytes .now) 0 0) (drop 2 (c .args .bytes .now))))
       | in-rest·by·else-bytes-lt2·in-83··in-rest· w ↦ let e : getD (c .args .bytes .now) 0 0 ≡ 83 = omega arith in rw e (grind (arith, tells))
       | in-rest·by·else-bytes-lt2·in-65··in-rest· w ↦ let e : getD (c .args .bytes .now) 0 0 ≡ 65 = omega arith in rw e (grind (arith, tells))
       | in-rest·by·else-bytes-lt2·in-74··in-rest· w ↦ let e : getD (c .args .bytes .now) 0 0 ≡ 74 = omega arith in rw e (grind (arith, tells))

@@ -1,6 +1,5 @@
 use mathlib.Core.List.{map}
 use lib.ListN.{take}
-
 use Rattle.words.specs.Shows.{show-fields, field-said, Wrote}
 use Rattle.words.proofs.listing.put_all.Given as given
 

@@ -13,7 +13,7 @@ pub returns-then-at-room : need.returns-then-at-room
 returns-then-at-room c =
     let joined = length-append (c .args .mark .now) (show-fields (map field-said (c .args .fields .now))) in
     elim (c .then-at-room .came) [
-      then-at-room·by·then-at-room w ↦ put-small _ _ _ (omega arith)
+      | then-at-room·by·then-at-room w ↦ put-small _ _ _ (omega arith)
       | then-at-room·by·else-at-room·then-mark-room w ↦ put-small _ _ _ (omega arith)
     ]
 

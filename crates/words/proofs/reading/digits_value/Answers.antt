@@ -13,7 +13,7 @@ use Rattle.words.proofs.reading.digits_value.Needs as need
 pub returns-then-not-is-ascii-digit : need.returns-then-not-is-ascii-digit
 returns-then-not-is-ascii-digit c =
     let e : allDigits (c .args .digits .now) ≡ false =
-        scan-stop asciiDigit allDigits refl (λ _ _. refl) (c .args .digits .now) (c .loop-b .b-index) (c .loop-b-test .taken) (sym (c .if-not-is-ascii-digit .ensures tt .value)) (c .loop-b .inv .2) in
+    scan-stop asciiDigit allDigits refl (λ _ _. refl) (c .args .digits .now) (c .loop-b .b-index) (c .loop-b-test .taken) (sym (c .if-not-is-ascii-digit .ensures tt .value)) (c .loop-b .inv .2) in
     grind (arith, tells)
 
 pub returns-then-n-most : need.returns-then-n-most
@@ -24,8 +24,7 @@ returns-then-n-most c =
 
 pub loop-b-again : need.loop-b-again
 loop-b-again c =
-    let more = readOn-more (c .loop-b .n) (c .args .digits .now) (c .loop-b .b-index) (c .loop-b-test .taken) in
-    (
+    let more = readOn-more (c .loop-b .n) (c .args .digits .now) (c .loop-b .b-index) (c .loop-b-test .taken) in (
       omega arith,
       (cc),
       scan-more asciiDigit allDigits refl (λ _ _. refl) (c .args .digits .now) (c .loop-b .b-index) (c .loop-b-test .taken) (sym (c .if-not-is-ascii-digit .ensures tt .value)) (c .loop-b .inv .2),

@@ -10,7 +10,7 @@ use Rattle.words.proofs.spelling.is_name.Needs as need
 pub returns-then-not-is-ascii-lowercase : need.returns-then-not-is-ascii-lowercase
 returns-then-not-is-ascii-lowercase c =
     let e : lowers (c .args .bytes .now) ≡ false =
-        scan-stop asciiLower lowers refl (λ _ _. refl) (c .args .bytes .now) (c .loop-b .b-index) (c .loop-b-test .taken) (sym (c .if-not-is-ascii-lowercase .ensures tt .value)) (c .loop-b .inv) in
+    scan-stop asciiLower lowers refl (λ _ _. refl) (c .args .bytes .now) (c .loop-b .b-index) (c .loop-b-test .taken) (sym (c .if-not-is-ascii-lowercase .ensures tt .value)) (c .loop-b .inv) in
     grind (arith, tells)
 
 pub loop-b-again : need.loop-b-again

@@ -15,7 +15,7 @@ returns c =
     record {
       more = ap (map line-of) (c .push-reserved .ensures .items) ∙ map-push line-of (vec-items (d .lines)) (c .args .line);
       stands =
-        same-standing (c .after-self .ensures)
-        (ap (map spelled) (c .enter .ensures .items) ∙ ap (λ o. map spelled (vec-items (d .channels) ++ listOf o)) (c .declared .ensures) ∙ declares-more (vec-items (d .channels)) r)
-        (ap (map spelled) (c .enter-2 .ensures .items) ∙ ap (λ o. map spelled (vec-items (d .bodies) ++ listOf o)) (c .opened .ensures) ∙ opens-more (vec-items (d .bodies)) r);
+          same-standing (c .after-self .ensures)
+          (ap (map spelled) (c .enter .ensures .items) ∙ ap (λ o. map spelled (vec-items (d .channels) ++ listOf o)) (c .declared .ensures) ∙ declares-more (vec-items (d .channels)) r)
+          (ap (map spelled) (c .enter-2 .ensures .items) ∙ ap (λ o. map spelled (vec-items (d .bodies) ++ listOf o)) (c .opened .ensures) ∙ opens-more (vec-items (d .bodies)) r);
     }

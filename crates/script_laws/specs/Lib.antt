@@ -1,0 +1,3 @@
+-- The statements of the laws.
+pub mod Laws
+pub mod Lawful
