@@ -5,6 +5,7 @@ ghost use Prim.Native.Nat.{_<_};
 ghost use lib.ListN.{length};
 ghost use Rattle.std.specs.Slices.{found};
 use script::Empty;
+use script_laws::read_exactly;
 use std::io;
 use std::io::Read as Input;
 use std::io::Write;
@@ -42,7 +43,7 @@ fn text_of(input: &[u8]) -> Option<(&[u8], &[u8])>
 // What comes of one text.
 fn print_outcome(rt: &LibcRuntime, text: &[u8]) -> io::Result<()> {
     let empty = Empty::new(rt.alloc())?;
-    let script = match empty.read(text) {
+    let script = match read_exactly(empty, text) {
         Ok(script) => script,
         Err(refused) => return println!(
             rt,

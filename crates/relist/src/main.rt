@@ -1,6 +1,7 @@
 // Reads a script on standard input and prints its listing, or `NO n l` where the text is refused.
 use script::Empty;
 use script::Read;
+use script_laws::read_exactly;
 use std::io;
 use std::io::Read as Input;
 use std::io::Write;
@@ -38,7 +39,7 @@ fn print_refused(rt: &LibcRuntime, fault: Fault) -> io::Result<()> {
 fn main(rt: LibcRuntime) -> io::Result<()> {
     let text = input(&rt)?;
     let empty = Empty::new(rt.alloc())?;
-    match empty.read(&text) {
+    match read_exactly(empty, &text) {
         Ok(script) => print_listing(&rt, &script, text.len()),
         Err(refused) => print_refused(&rt, refused.fault),
     }

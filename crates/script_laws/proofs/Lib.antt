@@ -4,3 +4,4 @@ pub mod Names
 pub mod Counts
 pub mod Shapes
 pub mod Whole
+pub mod Exact

@@ -1,3 +1,4 @@
 -- The statements of the laws.
 pub mod Laws
 pub mod Lawful
+pub mod Exact
