@@ -1,0 +1,5 @@
+-- Lemmas that several proofs share.
+pub mod Served
+pub mod Replays
+pub mod Along
+pub mod Decides
