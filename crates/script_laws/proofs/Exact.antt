@@ -14,8 +14,8 @@ use Rattle.script_laws.proofs.Whole.{accepts-lawful, lawful-kept}
 pub exactly : (t : List ℕ) (o : Result (List (Line (List ℕ))) Fault) → o ≡ read-script t → Exactly t o
 exactly t o e = record {
   only = λ ls h.
-    let r = sym e ∙ h in
-    let k = accepts-only t ls r in
-    record { lawful = accepts-lawful t ls r; good = k .0 .good; short = k .0 .short; listed = k .1 };
+      let r = sym e ∙ h in
+      let k = accepts-only t ls r in
+      record { lawful = accepts-lawful t ls r; good = k .0 .good; short = k .0 .short; listed = k .1 };
   all = λ ls h. e ∙ ap read-script (sym (h .listed)) ∙ accepts-kept ls (lawful-kept ls (h .lawful) (h .good) (h .short));
 }
