@@ -1,8 +1,6 @@
-// Lines of a script: a two-byte mark and its fields, read and listed.
-mod fields;
+// Lines of a script as data: a two-byte mark and its fields, listed, and what each is to the script around it.
 mod line;
 mod listing;
-mod reading;
 mod roles;
 
 pub use line::Kind;
@@ -10,4 +8,3 @@ pub use line::Line;
 pub use line::Operand;
 pub use line::Role;
 pub use listing::put_line;
-pub use reading::read_line;

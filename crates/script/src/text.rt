@@ -5,7 +5,7 @@ ghost use lib.ListN.{length};
 ghost use Rattle.script.specs.Drafts.{reading, outcome, Reads-one};
 ghost use Rattle.script.specs.Ended.{ended, parts};
 use crate::draft::Draft;
-use lines::read_line;
+use line_reader::read_line;
 use words::Fault;
 use words::cut;
 

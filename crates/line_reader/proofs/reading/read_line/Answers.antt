@@ -4,11 +4,11 @@ use lib.ListN.{getD, drop}
 use Rattle.std.proofs.shelf.Lists.{getD-past}
 use Rattle.std.proofs.shelf.Ways.{tells}
 use borrow.Author.Tests.{ltb-true}
 use Rattle.lines.specs.Lines.{formats}
 use native.Mathlib.Omega.{arith}
 use Rattle.lines.proofs.Marks.{at-mark, no-mark, marked}
-use Rattle.lines.proofs.reading.read_line.Needs as need
-use Rattle.lines.proofs.reading.read_line.Needs.{in-rest·by·then-bytes-lt2, in-rest·by·else-bytes-lt2·in-83··in-rest·, in-rest·by·else-bytes-lt2·in-65··in-rest·, in-rest·by·else-bytes-lt2·in-74··in-rest·, in-rest·by·else-bytes-lt2·in-72··in-rest·, in-rest·by·else-bytes-lt2·in-82··in-rest·, in-rest·by·else-bytes-lt2·in-67··in-rest·, in-rest·by·else-bytes-lt2·in-71··in-rest·, in-rest·by·else-bytes-lt2·in-80··in-rest·, in-rest·by·else-bytes-lt2·in-86··in-rest·, in-rest·by·else-bytes-lt2·in-rest·}
+use Rattle.line_reader.proofs.reading.read_line.Needs as need
+use Rattle.line_reader.proofs.reading.read_line.Needs.{in-rest·by·then-bytes-lt2, in-rest·by·else-bytes-lt2·in-83··in-rest·, in-rest·by·else-bytes-lt2·in-65··in-rest·, in-rest·by·else-bytes-lt2·in-74··in-rest·, in-rest·by·else-bytes-lt2·in-72··in-rest·, in-rest·by·else-bytes-lt2·in-82··in-rest·, in-rest·by·else-bytes-lt2·in-67··in-rest·, in-rest·by·else-bytes-lt2·in-71··in-rest·, in-rest·by·else-bytes-lt2·in-80··in-rest·, in-rest·by·else-bytes-lt2·in-86··in-rest·, in-rest·by·else-bytes-lt2·in-rest·}
 
 pub returns-in-83 : need.returns-in-83
 returns-in-83 c = c .read-set .ensures ∙ at-mark (c .args .line) (c .args .bytes .now) 83 86 (omega arith) (omega arith)

@@ -1,8 +1,8 @@
 use mathlib.Core.Path.{sym, ap, _∙_}
 use Rattle.std.specs.declared.result.Result.the-variants.{Ok}
 use Rattle.words.specs.Words.{said}
-use Rattle.lines.proofs.Named.{held-field}
-use Rattle.lines.proofs.fields.name_field.Needs as need
+use Rattle.line_reader.proofs.Named.{held-field}
+use Rattle.line_reader.proofs.fields.name_field.Needs as need
 
 -- the bytes of a name are always held
 pub returns-in-Break-held : need.returns-in-Break-held

@@ -3,8 +3,8 @@ use native.Mathlib.Omega.{arith}
 use lib.ListN.{getD}
 use borrow.Author.Needs.{needs}
 use Rattle.std.proofs.shelf.Lists.{take-rest}
 use Rattle.lines.specs.Lines.{read-field}
-use Rattle.lines.proofs.fields.field.Needs as need
+use Rattle.line_reader.proofs.fields.field.Needs as need
 
 pub returns-in-32 : need.returns-in-32
 unfolding read-field

@@ -1,9 +1,9 @@
 use mathlib.Core.Path.{_≡_}
 use Rattle.std.proofs.shelf.Results.{err-from-errBy}
 use Rattle.lines.specs.declared.line.Line.the-variants.{CaseReceiveHandle}
 use Rattle.lines.specs.Lines.{only, both, as-name, as-natural, handle-and-value}
-use Rattle.lines.proofs.Steps.{both-ok, whole-bad}
-use Rattle.lines.proofs.reading.read_case_receive_handle.Needs as need
+use Rattle.line_reader.proofs.Steps.{both-ok, whole-bad}
+use Rattle.line_reader.proofs.reading.read_case_receive_handle.Needs as need
 
 pub returns-in-Break-end : need.returns-in-Break-end
 returns-in-Break-end c =

@@ -10,7 +10,7 @@ use crate::fields::natural_field;
 use crate::fields::operand_field;
 use crate::fields::two_values;
 use crate::fields::value_field;
-use crate::line::Line;
+use lines::Line;
 use words::Fault;
 use words::Name;
 
