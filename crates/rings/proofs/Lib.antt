@@ -1,0 +1,5 @@
+pub mod Contents
+pub mod Holding
+pub mod Turns
+pub mod Histories
+pub mod Apart

@@ -1,0 +1,4 @@
+pub mod Contents
+pub mod Layouts
+pub mod Answers
+pub mod Laws
