@@ -1,0 +1,5 @@
+pub mod Seen
+pub mod Rules
+pub mod Receives
+pub mod Closes
+pub mod Settled
