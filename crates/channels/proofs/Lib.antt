@@ -1,2 +1,3 @@
 pub mod Freed
 pub mod Settled
+pub mod Orders

@@ -3,3 +3,4 @@ pub mod Rules
 pub mod Receives
 pub mod Closes
 pub mod Settled
+pub mod Orders

@@ -1,5 +1,6 @@
 // What every channel keeps, for users of channels to cite.
 ghost use Rattle.channels.specs.Settled.{Sends-settle, Receives-settle, Leaving-settles, Joining-settles, Closing-frees-all};
+ghost use Rattle.channels.specs.Orders.{First-in-first-out};
 use elements::Element;
 
 // At most the capacity is buffered; a receiver waits only at an open channel with an empty buffer, a sender only at an
@@ -11,6 +12,14 @@ pub fn channels_stay_settled<E: Element, X: Copy>() -> u8
     ensures leaving { λ _. ⌜ Leaving-settles E X ⌝ }
     ensures joining { λ _. ⌜ Joining-settles E X ⌝ }
     ensures closing { λ _. ⌜ Closing-frees-all X ⌝ }
+{
+    0
+}
+
+// Along any list of sends, receives, joins and departures on a settled channel: what was buffered and what was accepted
+// is what was received, in order, followed by what is buffered.
+pub fn channels_keep_order<E: Element, X: Copy>() -> u8
+    ensures { λ _. ⌜ First-in-first-out E X ⌝ }
 {
     0
 }
