@@ -1,3 +1,4 @@
 pub mod Freed
 pub mod Settled
 pub mod Orders
+pub mod Places

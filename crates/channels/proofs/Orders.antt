@@ -20,7 +20,7 @@ use Rattle.channels.specs.Seen.{Told}
 use Rattle.channels.specs.Rules.{sent, sent-to, after-sent, parted, offered}
 use Rattle.channels.specs.Receives.{got, got-in, got-from, after-got}
 use Rattle.channels.specs.Settled.{some, Settled, joined-by}
-use Rattle.channels.specs.Orders.{Deed, sends, receives, joins, leaves, may-wait, done, accepted-sent, received-sent, accepted-got, received-got, accepts, gives, all-done, all-accepted, all-received, First-in-first-out}
+use Rattle.channels.specs.Orders.{Deed, sends, receives, joins, leaves, closes, may-wait, done, accepted-sent, received-sent, accepted-got, received-got, accepts, gives, all-done, all-accepted, all-received, First-in-first-out}
 use Rattle.channels.proofs.Settled.{sends-settle, receives-settle, leaving-settles, joining-settles}
 
 first-some : {A : Type 0} (xs : List A) (x : A) → first xs ≡ Some x → some xs ≡ true
@@ -72,6 +72,9 @@ module _ {E X : Type 0} (c : Told E X) (h : Settled c) where
       at-there true = at-buffer (c .buffer) refl
       at-there false = append-nil (c .buffer)
 
+nobody : {A : Type 0} → false ≡ true → A
+nobody t = let z : _≡_ {A = ℕ} 0 1 = ap (λ b. cond b 1 0) t in absurd (omega arith)
+
 implied : (b p : Bool) → (not b || p) ≡ true → b ≡ true → p ≡ true
 implied true p h t = h
 implied false p h t = let z : _≡_ {A = ℕ} 0 1 = ap (λ b. cond b 1 0) t in absurd (omega arith)
@@ -85,6 +88,7 @@ module _ {E X : Type 0} (f : X → E) (z : E) where
   in-order (sends e) c h = (sends-settle c e h, sent-in-order c h e)
   in-order receives c h = (receives-settle f z c h, got-in-order c h f z)
   in-order (leaves r) c h = (leaving-settles r c h, append-nil (c .buffer))
+  in-order closes c h = (record { few = h .few; receivers-wait = nobody; senders-wait = nobody }, append-nil (c .buffer))
   in-order (joins rs ss) c h = go (may-wait rs ss c) refl
     where
       go : (b : Bool) → may-wait rs ss c ≡ b → Settled (cond b (joined-by rs ss c) c) × (c .buffer ++ [] ≡ (cond b (joined-by rs ss c) c) .buffer)

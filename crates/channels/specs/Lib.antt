@@ -4,3 +4,4 @@ pub mod Receives
 pub mod Closes
 pub mod Settled
 pub mod Orders
+pub mod Places

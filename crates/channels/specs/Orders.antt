@@ -23,6 +23,7 @@ pub data Deed (E X : Type 0) : Type 0 where
   receives : Deed E X
   joins : List (Entry X) → List (Entry X) → Deed E X
   leaves : ℕ → Deed E X
+  closes : Deed E X
 
 -- whether cases on a channel cannot go, so that a routine waits there
 abbrev pub may-wait : {E X : Type 0} → List (Entry X) → List (Entry X) → Told E X → Bool
@@ -30,11 +31,16 @@ may-wait rs ss c =
     (not (some rs) || (not (c .closed) && eqb (length (c .buffer)) 0))
     && (not (some ss) || (not (c .closed) && eqb (length (c .buffer)) (c .capacity)))
 
+-- closed, with nobody waiting
+abbrev pub closed-off : {E X : Type 0} → Told E X → Told E X
+closed-off c = record { there = c .there; capacity = c .capacity; closed = true; buffer = c .buffer; receivers = []; senders = [] }
+
 abbrev pub done : {E X : Type 0} → (X → E) → E → Deed E X → Told E X → Told E X
 done f z (sends e) c = after-sent (sent c) e c
 done f z receives c = after-got f z (got f z c) c
 done f z (joins rs ss) c = cond (may-wait rs ss c) (joined-by rs ss c) c
 done f z (leaves r) c = parted r (c .buffer) c
+done f z closes c = closed-off c
 
 -- the elements that the channel accepts by an answer, and those that somebody receives
 abbrev pub accepted-sent : {E X : Type 0} → E → Sent X → List E
@@ -74,12 +80,14 @@ accepts f z (sends e) c = accepted-sent e (sent c)
 accepts f z receives c = accepted-got f z (got f z c)
 accepts f z (joins rs ss) c = []
 accepts f z (leaves r) c = []
+accepts f z closes c = []
 
 abbrev pub gives : {E X : Type 0} → (X → E) → E → Deed E X → Told E X → List E
 gives f z (sends e) c = received-sent e (sent c)
 gives f z receives c = received-got (got f z c)
 gives f z (joins rs ss) c = []
 gives f z (leaves r) c = []
+gives f z closes c = []
 
 -- along a list
 abbrev pub all-done : {E X : Type 0} → (X → E) → E → List (Deed E X) → Told E X → Told E X

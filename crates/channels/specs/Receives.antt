@@ -7,11 +7,11 @@ use Rattle.std.specs.declared.option.Option.{Option}
 use Rattle.std.specs.declared.option.Option.the-variants.{Some, None}
 use Rattle.waiting.specs.declared.wish.Entry.{Entry}
 use Rattle.waiting.specs.Queues.{first, without, released}
-use Rattle.rings.specs.Layouts.{Layout, next-cell, one-less}
+use Rattle.rings.specs.Layouts.{Layout, next-cell, one-more, one-less}
 use Rattle.channels.specs.declared.channel.Received.{Received}
 use Rattle.channels.specs.declared.channel.Received.the-variants.{ShortBank, Empty, Drained, Taken, Handed}
-use Rattle.channels.specs.Seen.{Told}
-use Rattle.channels.specs.Rules.{offered, parted, buffering}
+use Rattle.channels.specs.Seen.{Told, Laid}
+use Rattle.channels.specs.Rules.{offered, parted, buffering, ringed}
 
 -- with an empty buffer: the first queued sender's element, or nothing
 abbrev pub got-from : {E X : Type 0} → (X → E) → E → Option (Entry X) → Bool → Received E X
@@ -60,3 +60,15 @@ cells-got f z Empty l bank = bank
 cells-got f z Drained l bank = bank
 cells-got f z (Taken e sender) l bank = cells-filled f z sender (one-less l) bank
 cells-got f z (Handed e w) l bank = bank
+
+-- its ring has one element less, and one more where a queued sender's element was buffered
+abbrev pub laid-filled : {X : Type 0} → Option (Entry X) → Laid → Laid
+laid-filled None c = c
+laid-filled (Some w) c = ringed (one-more (c .layout)) c
+
+abbrev pub laid-got : {E X : Type 0} → Received E X → Laid → Laid
+laid-got ShortBank c = c
+laid-got Empty c = c
+laid-got Drained c = c
+laid-got (Taken e sender) c = laid-filled sender (ringed (one-less (c .layout)) c)
+laid-got (Handed e w) c = c

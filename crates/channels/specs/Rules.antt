@@ -11,10 +11,10 @@ use Rattle.waiting.specs.declared.wish.Wish.{Wish}
 use Rattle.waiting.specs.declared.wish.Wish.the-variants.{Nothing, Send, Receive}
 use Rattle.waiting.specs.Queues.{first, without}
 use Rattle.waiting.specs.Laws.{others}
-use Rattle.rings.specs.Layouts.{Layout, next-cell}
+use Rattle.rings.specs.Layouts.{Layout, next-cell, one-more}
 use Rattle.channels.specs.declared.channel.Sent.{Sent}
 use Rattle.channels.specs.declared.channel.Sent.the-variants.{ShortBank, Closed, Full, Handed, Buffered}
-use Rattle.channels.specs.Seen.{Told}
+use Rattle.channels.specs.Seen.{Told, Laid}
 
 -- the first queued receiver gets the element; else it is buffered, if there is room
 abbrev pub sent-to : {X : Type 0} → Option (Entry X) → Bool → Sent X
@@ -53,6 +53,17 @@ cells-sent Closed l e bank = bank
 cells-sent Full l e bank = bank
 cells-sent (Handed w) l e bank = bank
 cells-sent Buffered l e bank = set bank (next-cell l) e
+
+-- the channel as it lies afterwards: its ring has one element more where the element was buffered
+abbrev pub ringed : Layout → Laid → Laid
+ringed l c = record { number = c .number; layout = l; closed = c .closed }
+
+abbrev pub laid-sent : {X : Type 0} → Sent X → Laid → Laid
+laid-sent ShortBank c = c
+laid-sent Closed c = c
+laid-sent Full c = c
+laid-sent (Handed w) c = c
+laid-sent Buffered c = ringed (one-more (c .layout)) c
 
 -- the element that a case offers to send
 abbrev pub offer : {E X : Type 0} → (X → E) → E → Wish X → E

@@ -20,16 +20,6 @@ pub record Told (E X : Type 0) : Type 0 where
   pub receivers : List (Entry X)
   pub senders : List (Entry X)
 
-abbrev pub seen : {E X : Type 0} → Channel → List E → List ℕ → List (Wish X) → Told E X
-seen c bank line table = record {
-  there = covers (layout (c .ring)) bank;
-  capacity = c .ring .capacity;
-  closed = c .closed;
-  buffer = held (layout (c .ring)) bank;
-  receivers = queue Receivers (c .number) line table;
-  senders = queue Senders (c .number) line table;
-}
-
 -- a channel as it lies: its number, its ring, whether it was closed
 pub record Laid : Type 0 where
   pub number : ℕ
@@ -38,6 +28,20 @@ pub record Laid : Type 0 where
 
 abbrev pub laid : Channel → Laid
 laid c = record { number = c .number; layout = layout (c .ring); closed = c .closed }
+
+-- what it stands for with its cells and its queues
+abbrev pub told : {E X : Type 0} → Laid → List E → List (Entry X) → List (Entry X) → Told E X
+told c bank receivers senders = record {
+  there = covers (c .layout) bank;
+  capacity = c .layout .capacity;
+  closed = c .closed;
+  buffer = held (c .layout) bank;
+  receivers = receivers;
+  senders = senders;
+}
+
+abbrev pub seen : {E X : Type 0} → Channel → List E → List ℕ → List (Wish X) → Told E X
+seen c bank line table = told (laid c) bank (queue Receivers (c .number) line table) (queue Senders (c .number) line table)
 
 abbrev pub laid-of : Option Channel → Option Laid
 laid-of None = None

@@ -11,4 +11,5 @@ pub use channel::Closing;
 pub use channel::Received;
 pub use channel::Sent;
 pub use laws::channels_keep_order;
+pub use laws::channels_keep_places;
 pub use laws::channels_stay_settled;

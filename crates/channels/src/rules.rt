@@ -3,9 +3,9 @@ ghost use mathlib.Core.Path.{_≡_};
 ghost use Rattle.waiting.specs.Lines.{line-of, table-of};
 ghost use Rattle.waiting.specs.Queues.{queue, first as firstOf, released};
 ghost use Rattle.rings.specs.Layouts.{layout, covers, held};
-ghost use Rattle.channels.specs.Seen.{seen};
-ghost use Rattle.channels.specs.Rules.{sent, after-sent, line-sent, cells-sent, offered};
-ghost use Rattle.channels.specs.Receives.{got, got-from, after-got, line-got, cells-got, parted-by, refilled, cells-filled};
+ghost use Rattle.channels.specs.Seen.{seen, laid};
+ghost use Rattle.channels.specs.Rules.{sent, after-sent, line-sent, cells-sent, laid-sent, offered};
+ghost use Rattle.channels.specs.Receives.{got, got-from, after-got, line-got, cells-got, laid-got, parted-by, refilled, cells-filled, laid-filled};
 ghost use Rattle.waiting.specs.declared.wish.Side.the-variants.{Receivers, Senders};
 ghost use Rattle.waiting.specs.Laws.{Served};
 ghost use mathlib.Core.Bool.{true};
@@ -45,6 +45,7 @@ impl Channel {
         ensures line { λ r. ⌜ line-of (now (waiting .exit)) ≡ line-sent r (line-of (now (waiting .entry))) ⌝ }
         ensures table { λ _. ⌜ table-of (now (waiting .exit)) ≡ table-of (now (waiting .entry)) ⌝ }
         ensures cells { λ r. ⌜ now (bank .exit) ≡ cells-sent r (layout (now (self .entry) .ring)) e (now (bank .entry)) ⌝ }
+        ensures channel { λ r. ⌜ laid (now (self .exit)) ≡ laid-sent r (laid (now (self .entry))) ⌝ }
     {
         if !self.ring.lies_in(bank) {
             return Sent::ShortBank;
@@ -74,6 +75,7 @@ impl Channel {
         ensures line { λ r. ⌜ line-of (now (waiting .exit)) ≡ released r (line-of (now (waiting .entry))) ⌝ }
         ensures table { λ _. ⌜ table-of (now (waiting .exit)) ≡ table-of (now (waiting .entry)) ⌝ }
         ensures cells { λ r. ⌜ now (bank .exit) ≡ cells-filled carried nought r (layout (now (self .entry) .ring)) (now (bank .entry)) ⌝ }
+        ensures channel { λ r. ⌜ laid (now (self .exit)) ≡ laid-filled r (laid (now (self .entry))) ⌝ }
     {
         let Some(sender) = waiting.release_first(Side::Senders, self.number) else {
             return None;
@@ -110,6 +112,7 @@ impl Channel {
         ensures line { λ r. ⌜ line-of (now (waiting .exit)) ≡ line-got r (line-of (now (waiting .entry))) ⌝ }
         ensures table { λ _. ⌜ table-of (now (waiting .exit)) ≡ table-of (now (waiting .entry)) ⌝ }
         ensures cells { λ r. ⌜ now (bank .exit) ≡ cells-got carried nought r (layout (now (self .entry) .ring)) (now (bank .entry)) ⌝ }
+        ensures channel { λ r. ⌜ laid (now (self .exit)) ≡ laid-got r (laid (now (self .entry))) ⌝ }
     {
         if !self.ring.lies_in(bank) {
             return Received::ShortBank;
