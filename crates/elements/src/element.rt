@@ -39,22 +39,22 @@ pub trait Element: Copy {
 
 // Whether a bank has all the cells of its kind.
 pub fn enough_cells<E: Element>(bank: &[E]) -> bool
-    ensures { result ≡ nat_le size (length bank.now) }
+    ensures { result ≡ nat_le E.size (length bank.now) }
 {
     E::cell_count() <= bank.len()
 }
 
 // Whether an element is the zero element: exactly when its code is 0.
 pub fn is_zero<E: Element>(e: E) -> bool
-    ensures codes { result ≡ (coded e == 0) }
-    ensures elements { Tells result (e ≡ nought) }
+    ensures codes { result ≡ (E.coded e == 0) }
+    ensures elements { Tells result (e ≡ E.nought) }
 {
     e.code() == 0
 }
 
 // Whether two elements are one: exactly when their codes are.
 pub fn same<E: Element>(a: E, b: E) -> bool
-    ensures codes { result ≡ (coded a == coded b) }
+    ensures codes { result ≡ (E.coded a == E.coded b) }
     ensures elements { Tells result (a ≡ b) }
 {
     a.code() == b.code()

@@ -7,7 +7,7 @@ pub returns-in-32 : goal.returns-in-32
 unfolding read_field
 returns-in-32 c =
     let first : get_or c.args.rest.now 0 0 ≡ 32 = omega arith in
-    let e = simp take_rest at c.next-word.ensures in
+    let e = simp take_rest at c.next_word.ensures in
     rw (first, e)
 
 pub returns-in-default : goal.returns-in-default

@@ -11,7 +11,7 @@ pub loop-query-preserved : goal.loop-query-preserved
 loop-query-preserved g c = (
   asking_more (g.P.Picker.meaning c.args.picker.now) (g.P.Picker.meaning c.loop-query.picker) _
       (vec_items c.args.answers.now) (vec_items c.loop-query.answers) _ c.args.queries.now c.loop-query.query-index _
-      c.loop-query.invariant.0 c.loop-query-test.true c.ask-next.ensures.items c.ask-next.ensures.then,
+      c.loop-query.invariant.0 c.loop-query-test.true c.ask_next.ensures.items c.ask_next.ensures.then,
   omega arith,
 )
 

@@ -4,4 +4,4 @@ use Rattle.pickers.specs.SetFacts.{cases_ones}
 use Rattle.pickers.proofs.ready.count.Goals as goal
 
 pub returns : goal.returns
-returns c = c.count-of-ones.ensures ∙ sym (cases_ones c.args.ready (omega arith))
+returns c = c.count_of_ones.ensures ∙ sym (cases_ones c.args.ready (omega arith))

@@ -7,6 +7,6 @@ use Rattle.pickers.proofs.ready.has.Goals as goal
 pub returns : goal.returns
 unfolding has
 returns c = record {
-  value = c.is-one.ensures;
-  bound = λ e. ltb-true c.args.case 8 (and_parts _ _ (sym c.is-one.ensures ∙ e)).0;
+  value = c.is_one.ensures;
+  bound = λ e. ltb-true c.args.case 8 (and_parts _ _ (sym c.is_one.ensures ∙ e)).0;
 }

@@ -6,6 +6,6 @@ use Rattle.pickers.proofs.ready.lowest.Goals as goal
 
 pub returns : goal.returns
 returns c = record {
-  value = c.lowest-from.ensures.value ∙ ap first (onward_all (cases c.args.ready));
-  within = c.lowest-from.ensures.within;
+  value = c.lowest_from.ensures.value ∙ ap first (onward_all (cases c.args.ready));
+  within = c.lowest_from.ensures.within;
 }

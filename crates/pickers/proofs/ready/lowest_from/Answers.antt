@@ -6,6 +6,6 @@ use Rattle.pickers.proofs.ready.lowest_from.Goals as goal
 
 pub returns : goal.returns
 returns c =
-    let e : c.lowest-one.result ≡ first (onward c.args.from (cases c.args.ready)) =
-    c.lowest-one.ensures ∙ lowest_one_lem c.args.ready c.args.from (omega arith) in
+    let e : c.lowest_one.result ≡ first (onward c.args.from (cases c.args.ready)) =
+    c.lowest_one.ensures ∙ lowest_one_lem c.args.ready c.args.from (omega arith) in
     record { value = e; within = subst (OneOf c.args.ready) (sym e) (onward_within c.args.ready c.args.from) }

@@ -9,8 +9,8 @@ pub returns : goal.returns
 returns c =
     let ws = map field_said (c.small.result ∷ (c.wide.result ∷ (c.small-2.result ∷ []))) in
     let same : ws ≡ natural c.args.routine ∷ (natural c.args.line ∷ (natural c.args.case ∷ [])) = cc in
-    let P : List ℕ → Type 0 = λ t. Wrote c.args.out.now c.args.at t c.put-way.new.out c.put-way.result in
+    let P : List ℕ → Type 0 = λ t. Wrote c.args.out.now c.args.at t c.put_way.new.out c.put_way.result in
     record {
-      wrote = subst P (pass_text c.args.routine c.args.line c.args.case c.args.pass ws same) (wrote_then c.args.out.now c.args.at (codes "ps" ++ show_fields ws) _ _ (show_fields (way c.args.pass) ++ (10 ∷ [])) _ _ (omega arith) c.put-at.ensures.wrote c.put-way.ensures.wrote);
+      wrote = subst P (pass_text c.args.routine c.args.line c.args.case c.args.pass ws same) (wrote_then c.args.out.now c.args.at (codes "ps" ++ show_fields ws) _ _ (show_fields (way c.args.pass) ++ (10 ∷ [])) _ _ (omega arith) c.put-at.ensures.wrote c.put_way.ensures.wrote);
       short = omega arith;
     }

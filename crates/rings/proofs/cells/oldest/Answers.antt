@@ -10,7 +10,7 @@ returns g c =
     let x = c.index-part-first.is in
     record {
       element = ap oldest_of e ∙ cc;
-      next = c.cell-after.ensures.value;
-      bound = c.cell-after.ensures.bound;
-      rest = ap (λ f. contents c.args.part.now f (c.args.count - 1)) c.cell-after.ensures.value ∙ sym (ap (drop 1) e);
+      next = c.cell_after.ensures.value;
+      bound = c.cell_after.ensures.bound;
+      rest = ap (λ f. contents c.args.part.now f (c.args.count - 1)) c.cell_after.ensures.value ∙ sym (ap (drop 1) e);
     }

@@ -10,6 +10,6 @@ tested xs ys r h = search (rules, bytes_eq-Decides)
 
 pub returns : goal.returns
 returns c =
-    tested c.as-bytes.result.now c.as-bytes-2.result.now c.eq.result (slice_eq-Decides Decides-eqb _ _ _ c.eq.ensures)
-    ∙ ap (λ l. bytes_eq l c.as-bytes-2.result.now) c.as-bytes.ensures
-    ∙ ap (λ l. bytes_eq (spelled c.args.a.now) l) c.as-bytes-2.ensures
+    tested c.as_bytes.result.now c.as_bytes-2.result.now c.eq.result (slice_eq-Decides Decides-eqb _ _ _ c.eq.ensures)
+    ∙ ap (λ l. bytes_eq l c.as_bytes-2.result.now) c.as_bytes.ensures
+    ∙ ap (λ l. bytes_eq (spelled c.args.a.now) l) c.as_bytes-2.ensures

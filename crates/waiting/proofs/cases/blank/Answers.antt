@@ -6,7 +6,7 @@ use Rattle.waiting.proofs.cases.blank.Goals as goal
 
 pub loop-k-preserved : goal.loop-k-preserved
 loop-k-preserved g c =
-    (c.push-reserved.ensures.items ∙ ap (λ l. l ++ Nothing ∷ []) c.loop-k.invariant.0 ∙ replicate_more c.loop-k.-k Nothing, omega arith, omega arith)
+    (c.push_reserved.ensures.items ∙ ap (λ l. l ++ Nothing ∷ []) c.loop-k.invariant.0 ∙ replicate_more c.loop-k.-k Nothing, omega arith, omega arith)
 
 pub returns : goal.returns
 returns g c =

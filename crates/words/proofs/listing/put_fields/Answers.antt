@@ -18,10 +18,10 @@ pub returns-then-not-fit : goal.returns-then-not-fit
 returns-then-not-fit c =
     put_small _ _ _ (omega (arith, length-append c.args.mark.now (show_fields (map field_said c.args.fields.now)), leb-false _ _ (sym c.if-not-fit.ensures)))
 
-pub put-all-requires : goal.put-all-requires
-put-all-requires c =
+pub put_all-requires : goal.put_all-requires
+put_all-requires c =
     omega (arith, length-append c.args.mark.now (show_fields (map field_said c.args.fields.now)), leb-true _ _ (sym c.if-not-fit.ensures))
 
 pub returns : goal.returns
 returns c =
-    put_made _ _ _ _ _ (omega (arith, length-append c.args.mark.now (show_fields (map field_said c.args.fields.now)), leb-true _ _ (sym c.if-not-fit.ensures))) c.put-all.ensures
+    put_made _ _ _ _ _ (omega (arith, length-append c.args.mark.now (show_fields (map field_said c.args.fields.now)), leb-true _ _ (sym c.if-not-fit.ensures))) c.put_all.ensures

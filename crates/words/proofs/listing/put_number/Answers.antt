@@ -15,6 +15,6 @@ returns c =
     let e = minus c.args.z neg in
     let l = ap length e in
     let fits = c.ranges.z in
-    let size : c.unsigned-abs.result ≡ nat_abs c.args.z = simp to_z-of_z at c.unsigned-abs.ensures.value in
+    let size : c.unsigned_abs.result ≡ nat_abs c.args.z = simp to_z-of_z at c.unsigned_abs.ensures.value in
     rw (e, sym size)
-    (wrote_then c.args.out.now c.args.at (45 ∷ []) _ _ (decimal c.unsigned-abs.result) _ _ (omega arith) c.put-byte-at.ensures c.put-decimal-2.ensures)
+    (wrote_then c.args.out.now c.args.at (45 ∷ []) _ _ (decimal c.unsigned_abs.result) _ _ (omega arith) c.put_byte-at.ensures c.put_decimal-2.ensures)

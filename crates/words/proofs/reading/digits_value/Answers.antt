@@ -6,10 +6,10 @@ use Rattle.words.specs.Words.{read_on}
 use Rattle.words.proofs.Scans.{scan_stop, scan_more, scan_all, read_on_ge, read_on_more, read_on_all}
 use Rattle.words.proofs.reading.digits_value.Goals as goal
 
-pub returns-then-not-is-ascii-digit : goal.returns-then-not-is-ascii-digit
-returns-then-not-is-ascii-digit c =
+pub returns-then-not-is_ascii_digit : goal.returns-then-not-is_ascii_digit
+returns-then-not-is_ascii_digit c =
     let e : all_ascii_digits c.args.digits.now ≡ false =
-    scan_stop is_ascii_digit all_ascii_digits refl (λ _ _. refl) c.args.digits.now c.loop-b.b-index c.loop-b-test.true (sym c.if-not-is-ascii-digit.ensures.value) c.loop-b.invariant.2 in
+    scan_stop is_ascii_digit all_ascii_digits refl (λ _ _. refl) c.args.digits.now c.loop-b.b-index c.loop-b-test.true (sym c.if-not-is_ascii_digit.ensures.value) c.loop-b.invariant.2 in
     grind (arith, nat_tests)
 
 pub returns-then-n-most : goal.returns-then-n-most
@@ -23,7 +23,7 @@ loop-b-preserved c =
     let more = read_on_more c.loop-b.n c.args.digits.now c.loop-b.b-index c.loop-b-test.true in (
       omega arith,
       (cc),
-      scan_more is_ascii_digit all_ascii_digits refl (λ _ _. refl) c.args.digits.now c.loop-b.b-index c.loop-b-test.true (sym c.if-not-is-ascii-digit.ensures.value) c.loop-b.invariant.2,
+      scan_more is_ascii_digit all_ascii_digits refl (λ _ _. refl) c.args.digits.now c.loop-b.b-index c.loop-b-test.true (sym c.if-not-is_ascii_digit.ensures.value) c.loop-b.invariant.2,
     )
 
 pub returns : goal.returns

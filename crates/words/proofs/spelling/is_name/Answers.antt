@@ -5,15 +5,15 @@ use Rattle.words.specs.Names.{lowers}
 use Rattle.words.proofs.Scans.{scan_stop, scan_more, scan_all}
 use Rattle.words.proofs.spelling.is_name.Goals as goal
 
-pub returns-then-not-is-ascii-lowercase : goal.returns-then-not-is-ascii-lowercase
-returns-then-not-is-ascii-lowercase c =
+pub returns-then-not-is_ascii_lowercase : goal.returns-then-not-is_ascii_lowercase
+returns-then-not-is_ascii_lowercase c =
     let e : lowers c.args.bytes.now ≡ false =
-    scan_stop is_ascii_lowercase lowers refl (λ _ _. refl) c.args.bytes.now c.loop-b.b-index c.loop-b-test.true (sym c.if-not-is-ascii-lowercase.ensures.value) c.loop-b.invariant in
+    scan_stop is_ascii_lowercase lowers refl (λ _ _. refl) c.args.bytes.now c.loop-b.b-index c.loop-b-test.true (sym c.if-not-is_ascii_lowercase.ensures.value) c.loop-b.invariant in
     grind (arith, nat_tests)
 
 pub loop-b-preserved : goal.loop-b-preserved
 loop-b-preserved c =
-    scan_more is_ascii_lowercase lowers refl (λ _ _. refl) c.args.bytes.now c.loop-b.b-index c.loop-b-test.true (sym c.if-not-is-ascii-lowercase.ensures.value) c.loop-b.invariant
+    scan_more is_ascii_lowercase lowers refl (λ _ _. refl) c.args.bytes.now c.loop-b.b-index c.loop-b-test.true (sym c.if-not-is_ascii_lowercase.ensures.value) c.loop-b.invariant
 
 pub returns : goal.returns
 returns c =

@@ -12,6 +12,6 @@ refill-requires g c =
     let t = c.in-Ok.ensures in
     let k = can_take (layout before) bank c.in-Ok.e (sym t.answer) in
     record {
-      there = ap (λ m. covers m bank) t.ring ∙ sym c.if-not-lies-in.ensures;
+      there = ap (λ m. covers m bank) t.ring ∙ sym c.if-not-lies_in.ensures;
       room = omega (arith, held_most (layout c.take.new.self) bank, ap (λ (m : Layout). m.count) t.ring, ap (λ (m : Layout). m.capacity) t.ring, k.some, before.counted);
     }

@@ -6,8 +6,8 @@ use Rattle.channels.specs.Closes.{freed, without_all}
 use Rattle.channels.proofs.Freed.{freed_more, freed_none, freed_waits, without_less}
 use Rattle.channels.proofs.channel.Channel.release_all.Goals as goal
 
-pub push-reserved-requires : goal.push-reserved-requires
-push-reserved-requires g c =
+pub push_reserved-requires : goal.push_reserved-requires
+push_reserved-requires g c =
     let w = c.loop-entry.waiting in
     let e = c.in-Some.entry in
     let less = without_less e.routine (line_of w) (freed_waits c.args.self.now.number (line_of w) (table_of w) e (sym c.in-Some.ensures.answer)) in
@@ -26,15 +26,15 @@ loop-entry-preserved g c =
     let e = c.in-Some.entry in
     let t = c.in-Some.ensures in
     let more = freed_more n (line_of w) (table_of w) e (sym t.answer) in
-    let next : freed n (line_of c.release-next.new.waiting) (table_of c.release-next.new.waiting) ≡ freed n (without e.routine (line_of w)) (table_of w) =
-    ap (λ l. freed n l (table_of c.release-next.new.waiting)) t.line ∙ ap (λ x. freed n (without e.routine (line_of w)) x) t.table in
+    let next : freed n (line_of c.release_next.new.waiting) (table_of c.release_next.new.waiting) ≡ freed n (without e.routine (line_of w)) (table_of w) =
+    ap (λ l. freed n l (table_of c.release_next.new.waiting)) t.line ∙ ap (λ x. freed n (without e.routine (line_of w)) x) t.table in
     let less = without_less e.routine (line_of w) (freed_waits n (line_of w) (table_of w) e (sym t.answer)) in (
-      ap (λ l. l ++ freed n (line_of c.release-next.new.waiting) (table_of c.release-next.new.waiting)) c.push-reserved.ensures.items
+      ap (λ l. l ++ freed n (line_of c.release_next.new.waiting) (table_of c.release_next.new.waiting)) c.push_reserved.ensures.items
           ∙ ap (λ l. (vec_items c.loop-entry.freed ++ (e ∷ [])) ++ l) next
           ∙ append_assoc (vec_items c.loop-entry.freed) (e ∷ []) (freed n (without e.routine (line_of w)) (table_of w))
           ∙ ap (λ l. vec_items c.loop-entry.freed ++ l) (sym more)
           ∙ c.loop-entry.invariant.0,
-      ap (λ l. without_all l (line_of c.release-next.new.waiting)) next
+      ap (λ l. without_all l (line_of c.release_next.new.waiting)) next
           ∙ ap (λ l. without_all (freed n (without e.routine (line_of w)) (table_of w)) l) t.line
           ∙ ap (λ l. without_all l (line_of w)) (sym more)
           ∙ c.loop-entry.invariant.1,

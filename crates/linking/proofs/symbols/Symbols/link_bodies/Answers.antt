@@ -7,14 +7,14 @@ use Rattle.linking.specs.Stages.{LiesIn}
 use Rattle.linking.proofs.Stages.{bodies_stops, bodies_all, stage_again}
 use Rattle.linking.proofs.symbols.Symbols.link_bodies.Goals as goal
 
-pub link-body-requires : goal.link-body-requires
-link-body-requires c = All-get_or (LiesIn (length c.args.lines.now)) c.args.sections.now c.loop-section.section-index (record { line = 0; count = 0 }) c.loop-section-test.true c.requires
+pub link_body-requires : goal.link_body-requires
+link_body-requires c = All-get_or (LiesIn (length c.args.lines.now)) c.args.sections.now c.loop-section.section-index (record { line = 0; count = 0 }) c.loop-section-test.true c.requires
 
 pub returns-in-err-body : goal.returns-in-err-body
 returns-in-err-body c =
     let p = err_from_is_err_and c.from-residual-in-err-body.result c.from-residual-in-err-body.ensures.1 in
     rw (p.1, p.2)
-    (bodies_stops (known_of c.args.self.now) (map line_of c.args.lines.now) c.args.sections.now c.loop-section.section-index (record { line = 0; count = 0 }) _ (vec_items c.loop-section.code.operations) (vec_items c.link-body.new.operations) c.in-err-body.field-0.0 c.loop-section-test.true c.loop-section.invariant.1 c.in-err-body.ensures)
+    (bodies_stops (known_of c.args.self.now) (map line_of c.args.lines.now) c.args.sections.now c.loop-section.section-index (record { line = 0; count = 0 }) _ (vec_items c.loop-section.code.operations) (vec_items c.link_body.new.operations) c.in-err-body.field-0.0 c.loop-section-test.true c.loop-section.invariant.1 c.in-err-body.ensures)
 
 pub loop-section-preserved : goal.loop-section-preserved
 loop-section-preserved c =

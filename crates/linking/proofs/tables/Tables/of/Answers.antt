@@ -19,8 +19,8 @@ use Rattle.linking.proofs.tables.Tables.of.Goals as goal
 surveyed_parts : (ls : List (Line Name)) (found : List Section) → found ≡ sections 1 ls → map (part_of (map line_of ls)) found ≡ parts 1 (map line_of ls)
 surveyed_parts ls found e = ap (map (part_of (map line_of ls))) e ∙ parts_spelled (map line_of ls) 1 [] ls refl refl
 
-pub link-bodies-requires : goal.link-bodies-requires
-link-bodies-requires c =
+pub link_bodies-requires : goal.link_bodies-requires
+link_bodies-requires c =
     let ls = c.args.lines.now in
     let P : List Section → Type 0 = All (LiesIn (length ls)) in
     subst P (sym (c.deref.ensures.value ∙ c.in-ok-symbols.ensures.bodies)) (sections_lie (length ls) 1 ls (omega arith))

@@ -5,6 +5,6 @@ use Rattle.reports.proofs.report.Report.print.Goals as goal
 
 pub returns : goal.returns
 returns c = record {
-  printed = printed_all _ (show_report c.args.self.now) _ _ (omega arith) (turn_wrote c.args.out.now 0 (records c.args.self.now) _ _ (omega arith) c.put-records.ensures.wrote);
-  short = c.put-records.ensures.short;
+  printed = printed_all _ (show_report c.args.self.now) _ _ (omega arith) (turn_wrote c.args.out.now 0 (records c.args.self.now) _ _ (omega arith) c.put_records.ensures.wrote);
+  short = c.put_records.ensures.short;
 }

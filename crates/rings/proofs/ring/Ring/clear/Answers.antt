@@ -10,6 +10,6 @@ returns g c =
       answer = search rules;
       ring = search rules;
       refused = tt;
-      cells = c.clear-in.ensures;
-      held = contents_none (between r.base (r.base + r.capacity) c.clear-in.new.bank) 0;
+      cells = c.clear_in.ensures;
+      held = contents_none (between r.base (r.base + r.capacity) c.clear_in.new.bank) 0;
     }

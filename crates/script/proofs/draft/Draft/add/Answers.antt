@@ -11,7 +11,7 @@ returns c =
     let d = c.args.self.now in
     let r = c.args.role in
     record {
-      more = ap (map line_of) c.push-reserved.ensures.items ∙ map_push line_of (vec_items d.lines) c.args.line;
+      more = ap (map line_of) c.push_reserved.ensures.items ∙ map_push line_of (vec_items d.lines) c.args.line;
       stands =
           same_standing c.after-self.ensures
           (ap (map spelled) c.enter.ensures.items ∙ ap (λ o. map spelled (vec_items d.channels ++ option_to_list o)) c.declared.ensures ∙ declares_more (vec_items d.channels) r)

@@ -24,10 +24,10 @@ returns-in-err-admit c =
     let p = err_from_is_err_and c.from-residual-in-err-admit.result c.from-residual-in-err-admit.ensures.1 in
     let a = c.in-err-admit.ensures in
     rw (p.1, p.2)
-    (line_refused c.args.self.now c.args.number c.args.text.now c.in-ok-bytes.bytes.now c.in-ok-bytes.rest.now (sym c.in-ok-bytes.ensures) (line_of c.in-ok-line.line) (sym c.in-ok-line.ensures) a.0 (ap (judge (seen c.args.self.now) (role (line_of c.in-ok-line.line))) (sym c.is-empty.ensures) ∙ a.1)
+    (line_refused c.args.self.now c.args.number c.args.text.now c.in-ok-bytes.bytes.now c.in-ok-bytes.rest.now (sym c.in-ok-bytes.ensures) (line_of c.in-ok-line.line) (sym c.in-ok-line.ensures) a.0 (ap (judge (seen c.args.self.now) (role (line_of c.in-ok-line.line))) (sym c.is_empty.ensures) ∙ a.1)
     ∙ ap Err (sym a.2))
 
 pub returns : goal.returns
 returns c =
     let a = c.in-ok-admit.ensures in
-    line_taken c.args.self.now c.args.number c.args.text.now c.in-ok-bytes.bytes.now c.in-ok-bytes.rest.now (sym c.in-ok-bytes.ensures) (line_of c.in-ok-line.line) (sym c.in-ok-line.ensures) c.admit.new.self (ap (judge (seen c.args.self.now) (role (line_of c.in-ok-line.line))) (sym c.is-empty.ensures) ∙ a.0) a.1
+    line_taken c.args.self.now c.args.number c.args.text.now c.in-ok-bytes.bytes.now c.in-ok-bytes.rest.now (sym c.in-ok-bytes.ensures) (line_of c.in-ok-line.line) (sym c.in-ok-line.ensures) c.admit.new.self (ap (judge (seen c.args.self.now) (role (line_of c.in-ok-line.line))) (sym c.is_empty.ensures) ∙ a.0) a.1

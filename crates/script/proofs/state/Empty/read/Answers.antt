@@ -10,14 +10,14 @@ invariant-of-result c =
     let e = c.args.self in
     let t = c.args.text.now in
     let all = c.in-Ok.ensures ∙ from_blank e.draft t (blank e.draft e.none e.unfilled e.idle) (omega arith) in
-    (ap length (sym (script_lists_back t (lines_of c.read-text.new.self) (sym all))), (∣ read_kept t (lines_of c.read-text.new.self) (sym all) ∣₁, tt))
+    (ap length (sym (script_lists_back t (lines_of c.read_text.new.self) (sym all))), (∣ read_kept t (lines_of c.read_text.new.self) (sym all) ∣₁, tt))
 
 pub returns-in-Ok : goal.returns-in-Ok
 returns-in-Ok c =
     let e = c.args.self in
     let t = c.args.text.now in
     let all = c.in-Ok.ensures ∙ from_blank e.draft t (blank e.draft e.none e.unfilled e.idle) (omega arith) in
-    let same = script_lists_back t (lines_of c.read-text.new.self) (sym all) in
+    let same = script_lists_back t (lines_of c.read_text.new.self) (sym all) in
     record { value = all; listed = record { same_text = same; same_script = ap read_script same ∙ sym all } }
 
 pub returns-in-Err : goal.returns-in-Err

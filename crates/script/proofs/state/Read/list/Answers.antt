@@ -11,8 +11,8 @@ use Rattle.script.proofs.state.Read.list.Goals as goal
 pub loop-line-init : goal.loop-line-init
 loop-line-init c = rw (shown_none c.deref-line-items.result.now) (wrote_none c.args.out.now 0 (omega arith))
 
-pub put-ended-requires : goal.put-ended-requires
-put-ended-requires c =
+pub put_ended-requires : goal.put_ended-requires
+put_ended-requires c =
     let ls = c.deref-line-items.result.now in
     let whole = ap (λ l. length (show (map line_of l))) c.deref-line-items.ensures.value in
     omega (arith, shown_room ls c.loop-line.line-index (Set 0 (pos 0)) c.loop-line-test.true, whole, c.args.self.now.sized)

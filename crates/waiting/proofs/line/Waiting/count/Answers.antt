@@ -7,15 +7,15 @@ use Rattle.waiting.proofs.line.Waiting.count.Goals as goal
 
 pub loop-next-preserved : goal.loop-next-preserved
 loop-next-preserved g c =
-    let e = length_step c.args.side c.args.channel c.as-slice-line.result.now c.as-slice-table.result.now c.loop-next.next-index (omega arith) in
-    let n : c.count-places-n.result ≡ length (places c.args.side c.args.channel (get_or c.as-slice-line.result.now c.loop-next.next-index 0) 0 (cases (get_or c.as-slice-line.result.now c.loop-next.next-index 0) c.as-slice-table.result.now)) =
-    c.count-places-n.ensures.is ∙ ap (λ l. length (places c.args.side c.args.channel (get_or c.as-slice-line.result.now c.loop-next.next-index 0) 0 l)) c.cases-of.ensures.is in
+    let e = length_step c.args.side c.args.channel c.as_slice-line.result.now c.as_slice-table.result.now c.loop-next.next-index (omega arith) in
+    let n : c.count_places-n.result ≡ length (places c.args.side c.args.channel (get_or c.as_slice-line.result.now c.loop-next.next-index 0) 0 (cases (get_or c.as_slice-line.result.now c.loop-next.next-index 0) c.as_slice-table.result.now)) =
+    c.count_places-n.ensures.is ∙ ap (λ l. length (places c.args.side c.args.channel (get_or c.as_slice-line.result.now c.loop-next.next-index 0) 0 l)) c.cases_of.ensures.is in
     (omega arith, omega arith)
 
 pub returns : goal.returns
 returns g c =
-    let e = ap length (queue_none c.args.side c.args.channel c.as-slice-line.result.now c.as-slice-table.result.now c.loop-next.next-index (omega arith)) in
-    let all : c.loop-next.n ≡ length (queue c.args.side c.args.channel c.as-slice-line.result.now c.as-slice-table.result.now) = omega arith in
+    let e = ap length (queue_none c.args.side c.args.channel c.as_slice-line.result.now c.as_slice-table.result.now c.loop-next.next-index (omega arith)) in
+    let all : c.loop-next.n ≡ length (queue c.args.side c.args.channel c.as_slice-line.result.now c.as_slice-table.result.now) = omega arith in
     all
-    ∙ ap (λ l. length (queue c.args.side c.args.channel l c.as-slice-table.result.now)) c.as-slice-line.ensures.value
-    ∙ ap (λ t. length (queue c.args.side c.args.channel (line_of c.args.self.now) t)) c.as-slice-table.ensures.value
+    ∙ ap (λ l. length (queue c.args.side c.args.channel l c.as_slice-table.result.now)) c.as_slice-line.ensures.value
+    ∙ ap (λ t. length (queue c.args.side c.args.channel (line_of c.args.self.now) t)) c.as_slice-table.ensures.value

@@ -7,15 +7,15 @@ use Rattle.waiting.proofs.line.Waiting.waits.Goals as goal
 
 pub returns-then-next-routine : goal.returns-then-next-routine
 returns-then-next-routine g c =
-    sym (waits_here c.args.routine c.as-slice-line.result.now c.loop-next.next-index (omega arith) (eq-eqb _ _ c.if-next-routine.true))
-    ∙ c.loop-next.invariant ∙ ap (waits c.args.routine) c.as-slice-line.ensures.value
+    sym (waits_here c.args.routine c.as_slice-line.result.now c.loop-next.next-index (omega arith) (eq-eqb _ _ c.if-next-routine.true))
+    ∙ c.loop-next.invariant ∙ ap (waits c.args.routine) c.as_slice-line.ensures.value
 
 pub loop-next-preserved : goal.loop-next-preserved
 loop-next-preserved g c =
-    sym (waits_later c.args.routine c.as-slice-line.result.now c.loop-next.next-index (omega arith) (ne_eqb _ _ c.if-next-routine.false))
+    sym (waits_later c.args.routine c.as_slice-line.result.now c.loop-next.next-index (omega arith) (ne_eqb _ _ c.if-next-routine.false))
     ∙ c.loop-next.invariant
 
 pub returns : goal.returns
 returns g c =
-    sym (waits_none c.args.routine c.as-slice-line.result.now c.loop-next.next-index (omega arith))
-    ∙ c.loop-next.invariant ∙ ap (waits c.args.routine) c.as-slice-line.ensures.value
+    sym (waits_none c.args.routine c.as_slice-line.result.now c.loop-next.next-index (omega arith))
+    ∙ c.loop-next.invariant ∙ ap (waits c.args.routine) c.as_slice-line.ensures.value
