@@ -1,6 +1,8 @@
 // Reads many texts, one after another, and prints what comes of each: the boundaries of every rule.
 // Standard input has for each a line `title length` and then that many bytes.
 // A refused text prints `title: NO n l`, and one that is listed back byte for byte `title: same`.
+#![tactic(auto)]
+
 ghost use Rattle.std.specs.Prelude.{◌<◌, length, IfSome};
 
 use script::Empty;

@@ -1,4 +1,6 @@
 // The rules of a channel, for every kind of element: sending, receiving and closing, over a ring and the waiting line.
+#![tactic(auto)]
+
 mod channel;
 mod closing;
 mod laws;

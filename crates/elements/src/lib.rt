@@ -1,4 +1,6 @@
 // What channels carry: the trait of an element kind, and two kinds, values and handles.
+#![tactic(auto)]
+
 mod element;
 mod handle;
 mod value;

@@ -1,4 +1,6 @@
 // Reading a line of a script.
+#![tactic(auto)]
+
 mod fields;
 mod reading;
 

@@ -1,4 +1,6 @@
 // Lines of a script as data: a two-byte mark and its fields, listed, and what each is to the script around it.
+#![tactic(auto)]
+
 mod line;
 mod listing;
 mod roles;

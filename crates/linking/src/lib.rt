@@ -1,4 +1,6 @@
 // Linking: every name of a script found, every target sound, and lines turned into operations on numbers.
+#![tactic(auto)]
+
 mod bodies;
 mod declared;
 mod link;

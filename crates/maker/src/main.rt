@@ -1,4 +1,6 @@
 // A maker's first hour: a third element kind, pairs of bytes, on a channel of two cells.
+#![tactic(auto)]
+
 mod pair;
 
 use anyhow::anyhow;

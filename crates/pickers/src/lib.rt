@@ -1,4 +1,6 @@
 // Pickers: which case of a select goes when two or more are ready, by a meaning, so that a run can be played again.
+#![tactic(auto)]
+
 mod asking;
 mod choosing;
 mod digits;

@@ -6,6 +6,8 @@
 //
 // For each query it prints what each picker's select takes, and whether the picker was asked. Then it prints the
 // turning picker's answers as picks, in the form in which a schedule is read.
+#![tactic(auto)]
+
 mod entries;
 
 use entries::{Entry, read_entry};

@@ -1,4 +1,6 @@
 // Reads a script on standard input and prints its listing, or `NO n l` where the text is refused.
+#![tactic(auto)]
+
 use script::{Empty, Read};
 use script_laws::read_exactly;
 use std::io;

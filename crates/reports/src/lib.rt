@@ -1,4 +1,6 @@
 // Reports of a run's steps, printed as text.
+#![tactic(auto)]
+
 mod laws;
 mod printing;
 mod report;

@@ -1,4 +1,6 @@
 // Rings of elements, each on a part of a lent bank of cells, for every kind of element.
+#![tactic(auto)]
+
 mod calls;
 mod cells;
 mod laws;

@@ -1,4 +1,6 @@
 // Routines: what a run keeps of each, and what its lines do to it alone.
+#![tactic(auto)]
+
 mod item;
 mod routine;
 

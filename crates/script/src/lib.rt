@@ -1,4 +1,6 @@
 // Scripts: read from text into an empty script, and listed back.
+#![tactic(auto)]
+
 mod admission;
 mod draft;
 mod listing;

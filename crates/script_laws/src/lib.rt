@@ -1,4 +1,6 @@
 // The laws of scripts: which texts are read, and as what.
+#![tactic(auto)]
+
 ghost use Rattle.std.specs.Prelude.{◌≡◌};
 ghost use Rattle.script.specs.States.{answer};
 ghost use Rattle.script.specs.Texts.{read_script};

@@ -1,4 +1,6 @@
 // Who waits at which channel: one waiting line, from which each channel's two queues are read.
+#![tactic(auto)]
+
 mod cases;
 mod laws;
 mod line;

@@ -1,4 +1,6 @@
 // Words of a script's text, read and listed, and the refusals that every layer above gives.
+#![tactic(auto)]
+
 mod listing;
 mod name;
 mod reading;
