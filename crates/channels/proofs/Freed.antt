@@ -1,15 +1,15 @@
 -- One routine more is released by a close.
-use Rattle.std.proofs.Common.{◌≡◌, ℕ, suc, ◌+◌, ◌<◌, ◌≤◌, Bool, true, false, cond, not, eqb, ◌⊎◌, List, [], ◌∷◌, ◌++◌, length, Some, None, filter, Option, sym, refl, ap, ◌∙◌, inl, inr, ⊎_elim, arith}
+use Rattle.std.proofs.Common.{◌≡◌, ℕ, suc, ◌+◌, ◌<◌, ◌≤◌, Bool, true, false, cond, not, eqb, ◌⊎◌, List, [], ◌∷◌, ◌++◌, length, Some, None, sym, refl, ap, ◌∙◌, inl, inr, ⊎_elim, arith}
 use Rattle.std.proofs.lemmas.List.Elements.{filter-append}
 use Rattle.std.proofs.lemmas.Bool.{eqb-true, eqb-false, eq-eqb, ne_eqb}
 use Rattle.waiting.specs.declared.wish.Wish.{Wish}
 use Rattle.waiting.specs.declared.wish.Entry.{Entry}
 use Rattle.waiting.specs.declared.wish.Side.{Side}
 use Rattle.waiting.specs.declared.wish.Side.TheVariants.{Receivers, Senders}
-use Rattle.waiting.specs.Queues.{stands, places, cases, queue, first, waits, without, released}
+use Rattle.waiting.specs.Queues.{stands, places, cases, queue, first, waits, without}
 use Rattle.waiting.specs.Laws.{others}
 use Rattle.waiting.proofs.Orders.{queue_without}
-use Rattle.channels.specs.Closes.{both, firsts, freed, without_all}
+use Rattle.channels.specs.Closes.{both, firsts, freed}
 
 -- only who was met matters, not in which order
 firsts_same : {X : Type 0} (m n : List ℕ) (es : List (Entry X)) → ((q : ℕ) → waits q m ≡ waits q n) → firsts m es ≡ firsts n es

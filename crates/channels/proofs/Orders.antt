@@ -1,15 +1,14 @@
 -- What is accepted is received in order.
-use Rattle.std.proofs.Common.{◌≡◌, ℕ, Bool, true, false, cond, not, ◌&&◌, ◌||◌, eqb, ltb, List, [], ◌∷◌, ◌++◌, length, drop, Some, None, Option, sym, refl, ap, ◌∙◌, subst, arith}
+use Rattle.std.proofs.Common.{◌≡◌, ℕ, Bool, true, false, cond, not, ◌&&◌, ◌||◌, eqb, ltb, List, [], ◌∷◌, ◌++◌, length, drop, Some, None, Option, sym, refl, ap, ◌∙◌, arith}
 use Rattle.std.proofs.lemmas.List.{append_assoc, append-nil, nil_from_length}
 use Rattle.std.proofs.lemmas.Bool.{and_parts, eqb-true}
 use Rattle.waiting.specs.declared.wish.Entry.{Entry}
 use Rattle.waiting.specs.Queues.{first}
-use Rattle.channels.specs.declared.channel.Sent.{Sent}
-use Rattle.channels.specs.declared.channel.Sent.TheVariants.{ShortBank, Closed, Full, Handed, Buffered}
+use Rattle.channels.specs.declared.channel.Sent.TheVariants.{ShortBank, Closed}
 use Rattle.channels.specs.declared.channel.Received.{Received}
-use Rattle.channels.specs.declared.channel.Received.TheVariants.{ShortBank as NoBank, Empty, Drained, Taken, Handed as Passed}
+use Rattle.channels.specs.declared.channel.Received.TheVariants.{ShortBank as NoBank, Empty, Drained, Taken}
 use Rattle.channels.specs.Seen.{Told}
-use Rattle.channels.specs.Rules.{sent, sent_to, after_sent, parted, offered}
+use Rattle.channels.specs.Rules.{sent, sent_to, after_sent, offered}
 use Rattle.channels.specs.Receives.{got, got_in, got_from, after_got}
 use Rattle.channels.specs.Settled.{some, Settled, joined_by}
 use Rattle.channels.specs.Orders.{Deed, sends, receives, joins, leaves, closes, may_wait, done, accepted_sent, received_sent, accepted_got, received_got, accepts, gives, all_done, all_accepted, all_received, FirstInFirstOut}

@@ -1,5 +1,5 @@
 -- First in, first out: along any list of operations on a channel.
-use Rattle.std.specs.Prelude.{◌≡◌, ℕ, Bool, true, false, cond, not, ◌&&◌, ◌||◌, List, [], ◌∷◌, ◌++◌, length, Some, None, Option, ◌==◌}
+use Rattle.std.specs.Prelude.{◌≡◌, ℕ, Bool, true, cond, not, ◌&&◌, ◌||◌, List, [], ◌∷◌, ◌++◌, length, Some, None, Option, ◌==◌}
 use Rattle.waiting.specs.declared.wish.Entry.{Entry}
 use Rattle.channels.specs.declared.channel.Sent.{Sent}
 use Rattle.channels.specs.declared.channel.Sent.TheVariants.{ShortBank, Closed, Full, Handed, Buffered}

@@ -15,7 +15,7 @@ use waiting::{Entry, Side, Waiting, Wish};
 
 // The element that a queued sender offers.
 fn offered_by<E: Element, X: Carries<E>>(sender: Entry<X>) -> E
-    ensures { result ≡ offered carried nought sender }
+    ensures { result ≡ offered X.carried E.nought sender }
 {
     match sender.wish {
         Wish::Send(_, x) => x.carried_element(),
@@ -62,10 +62,10 @@ impl Channel {
         requires there { covers (layout self.old.ring) bank.old ≡ true }
         requires room { length (held (layout self.old.ring) bank.old) < self.old.ring.capacity }
         ensures answer { result ≡ first_of (queue Senders self.old.number (line_of waiting.old) (table_of waiting.old)) }
-        ensures after { seen self.new bank.new (line_of waiting.new) (table_of waiting.new) ≡ parted_by result (refilled carried nought result (held (layout self.old.ring) bank.old)) (seen self.old bank.old (line_of waiting.old) (table_of waiting.old)) }
+        ensures after { seen self.new bank.new (line_of waiting.new) (table_of waiting.new) ≡ parted_by result (refilled X.carried E.nought result (held (layout self.old.ring) bank.old)) (seen self.old bank.old (line_of waiting.old) (table_of waiting.old)) }
         ensures line { line_of waiting.new ≡ released result (line_of waiting.old) }
         ensures table { table_of waiting.new ≡ table_of waiting.old }
-        ensures cells { bank.new ≡ cells_filled carried nought result (layout self.old.ring) bank.old }
+        ensures cells { bank.new ≡ cells_filled X.carried E.nought result (layout self.old.ring) bank.old }
         ensures channel { laid self.new ≡ laid_filled result (laid self.old) }
     {
         let Some(sender) = waiting.release_first(Side::Senders, self.number) else {
@@ -80,10 +80,10 @@ impl Channel {
         &self,
         waiting: &mut Waiting<X>,
     ) -> Received<E, X>
-        ensures answer { result ≡ got_from carried nought (first_of (queue Senders self.now.number (line_of waiting.old) (table_of waiting.old))) self.now.closed }
+        ensures answer { result ≡ got_from X.carried E.nought (first_of (queue Senders self.now.number (line_of waiting.old) (table_of waiting.old))) self.now.closed }
         ensures line { line_of waiting.new ≡ line_got result (line_of waiting.old) }
         ensures table { table_of waiting.new ≡ table_of waiting.old }
-        ensures queues { (bank : List E) → seen self.now bank (line_of waiting.new) (table_of waiting.new) ≡ after_got carried nought result (seen self.now bank (line_of waiting.old) (table_of waiting.old)) }
+        ensures queues { (bank : List E) → seen self.now bank (line_of waiting.new) (table_of waiting.new) ≡ after_got X.carried E.nought result (seen self.now bank (line_of waiting.old) (table_of waiting.old)) }
     {
         match waiting.release_first(Side::Senders, self.number) {
             Some(sender) => Received::Handed(offered_by(sender), sender),
@@ -98,11 +98,11 @@ impl Channel {
         waiting: &mut Waiting<X>,
         bank: &mut [E],
     ) -> Received<E, X>
-        ensures answer { result ≡ got carried nought (seen self.old bank.old (line_of waiting.old) (table_of waiting.old)) }
-        ensures after { seen self.new bank.new (line_of waiting.new) (table_of waiting.new) ≡ after_got carried nought result (seen self.old bank.old (line_of waiting.old) (table_of waiting.old)) }
+        ensures answer { result ≡ got X.carried E.nought (seen self.old bank.old (line_of waiting.old) (table_of waiting.old)) }
+        ensures after { seen self.new bank.new (line_of waiting.new) (table_of waiting.new) ≡ after_got X.carried E.nought result (seen self.old bank.old (line_of waiting.old) (table_of waiting.old)) }
         ensures line { line_of waiting.new ≡ line_got result (line_of waiting.old) }
         ensures table { table_of waiting.new ≡ table_of waiting.old }
-        ensures cells { bank.new ≡ cells_got carried nought result (layout self.old.ring) bank.old }
+        ensures cells { bank.new ≡ cells_got X.carried E.nought result (layout self.old.ring) bank.old }
         ensures channel { laid self.new ≡ laid_got result (laid self.old) }
     {
         if !self.ring.lies_in(bank) {

@@ -1,5 +1,5 @@
 -- Rings without a cell in common.
-use Rattle.std.proofs.Common.{◌≡◌, ℕ, ◌+◌, ◌-◌, ◌<◌, ◌≤◌, Bool, true, false, cond, ◌⊎◌, List, ◌++◌, length, take, drop, set, replicate, Ok, Err, Result, sym, refl, ap, ◌∙◌, inl, inr, arith, leb-true}
+use Rattle.std.proofs.Common.{◌≡◌, ℕ, ◌+◌, ◌-◌, ◌<◌, ◌≤◌, Bool, true, false, cond, ◌⊎◌, List, ◌++◌, length, take, drop, replicate, Ok, Err, Result, sym, refl, ap, ◌∙◌, inl, inr, arith, leb-true}
 use borrow.Rule.Slice.PartMut.{put_mid}
 use Rattle.std.specs.List.{between}
 use Rattle.std.proofs.lemmas.List.{drop-drop, length-replicate}
@@ -8,8 +8,8 @@ use Rattle.rings.specs.declared.ring.Ring.{Ring}
 use Rattle.rings.specs.declared.ring.RingError.{RingError}
 use Rattle.rings.specs.declared.ring.RingError.TheVariants.{ShortBank}
 use Rattle.rings.specs.Contents.{around, contents, cleared}
-use Rattle.rings.specs.Layouts.{Layout, layout, covers, held, next_cell}
-use Rattle.rings.specs.Answers.{put_answer, clear_answer, stored, wiped}
+use Rattle.rings.specs.Layouts.{layout, covers, held, next_cell}
+use Rattle.rings.specs.Answers.{put_answer, stored, wiped}
 use Rattle.rings.specs.Laws.{Apart, LeftAlone}
 use Rattle.rings.proofs.Contents.{between_set_other, around_below}
 use Rattle.rings.proofs.Turns.{can_put}

@@ -1,11 +1,11 @@
 -- What a write to a ring's part and a step to its next cell leave of the contents.
-use Rattle.std.proofs.Common.{◌≡◌, ℕ, zero, suc, ◌+◌, ◌-◌, ◌%◌, ◌<◌, ◌≤◌, ◌≢◌, ◌⊎◌, List, [], ◌∷◌, ◌++◌, length, get_or, take, drop, set, replicate, Ok, Err, sym, refl, ap, ◌∙◌, inl, inr, ⊎_elim, add-zero, mod-eq_of_lt, add-one, arith, rules}
+use Rattle.std.proofs.Common.{◌≡◌, ℕ, zero, suc, ◌+◌, ◌-◌, ◌%◌, ◌<◌, ◌≤◌, ◌≢◌, ◌⊎◌, List, [], ◌∷◌, ◌++◌, length, get_or, take, drop, set, replicate, Ok, Err, sym, refl, ap, ◌∙◌, inl, inr, ⊎_elim, add-zero, mod-eq_of_lt, add-one, arith}
 use native.Mathlib.Nat.{mod-eq-sub-mod, mod-add-mod}
 use borrow.Rule.Slice.PartMut.{put_mid}
 use Rattle.std.specs.List.{between}
-use Rattle.std.proofs.lemmas.List.{places, same_lists, length-take, length-drop, length-append, length-set, length-take-le, get_or-take, get_or-drop, get_or_append_left, get_or-append_right, get_or-set_same, get_or-set_other, get_or_push, length_push, get_or_default, take-append-drop, set-append_right, set-append_left, take-set-le, drop-set-lt, drop_more, drop_all, drop-drop, set_at, length-replicate, append_assoc, append-nil, replicate_more}
+use Rattle.std.proofs.lemmas.List.{same_lists, length-take, length-drop, length-append, length-set, length-take-le, get_or-take, get_or-drop, get_or_append_left, get_or-append_right, get_or-set_same, get_or-set_other, get_or_push, length_push, get_or_default, take-append-drop, set-append_right, set-append_left, take-set-le, drop-set-lt, drop_more, drop_all, drop-drop, set_at, length-replicate, append_assoc, append-nil, replicate_more}
 use Rattle.std.proofs.lemmas.Slice.{between_is}
-use Rattle.std.proofs.lemmas.Bool.{cases_lt, cases_eq}
+use Rattle.std.proofs.lemmas.Bool.{cases_lt}
 use Rattle.rings.specs.declared.ring.RingError.TheVariants.{NoSuchPlace}
 use Rattle.rings.specs.Answers.{at_place}
 use Rattle.rings.specs.Contents.{around, contents, cleared}

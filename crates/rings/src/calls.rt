@@ -84,7 +84,7 @@ impl Ring {
         ensures answer { result ≡ clear_answer (layout self.old) bank.old }
         ensures ring { layout self.new ≡ emptied result (layout self.old) }
         ensures refused { WhenRefused result (self.new ≡ self.old) }
-        ensures cells { bank.new ≡ wiped result (layout self.old) nought bank.old }
+        ensures cells { bank.new ≡ wiped result (layout self.old) E.nought bank.old }
         ensures held { held (layout self.new) bank.new ≡ (if is_ok result then [] else held (layout self.old) bank.old) }
     {
         if !self.lies_in(bank) {

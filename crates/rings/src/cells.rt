@@ -46,7 +46,7 @@ pub(crate) fn look<E: Element>(part: &[E], first: usize, count: usize, place: us
 
 // Sets each cell to the zero element.
 pub(crate) fn clear<E: Element>(part: &mut [E])
-    ensures { part.new ≡ replicate (length part.old) nought }
+    ensures { part.new ≡ replicate (length part.old) E.nought }
 {
     for cell in part.iter_mut() {
         *cell = E::zero();

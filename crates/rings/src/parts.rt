@@ -54,7 +54,7 @@ impl Ring {
     // Sets the cells of the ring to the zero element.
     pub(crate) fn clear_in<E: Element>(&self, bank: &mut [E])
         requires { self.now.base + self.now.capacity ≤ length bank.old }
-        ensures { bank.new ≡ cleared self.now.base self.now.capacity nought bank.old }
+        ensures { bank.new ≡ cleared self.now.base self.now.capacity E.nought bank.old }
     {
         cells::clear(&mut bank[self.base..self.base + self.capacity]);
     }

@@ -1,5 +1,5 @@
 -- The part is cut where the table ends.
-use Rattle.std.proofs.Common.{◌-◌, ◌*◌, ◌≤◌, min, length, take, drop, arith, length-take}
+use Rattle.std.proofs.Common.{◌-◌, ◌*◌, drop, arith, length-take}
 use Rattle.waiting.proofs.Tables.{part_is}
 use Rattle.waiting.proofs.cases.cases_of.Goals as goal
 

@@ -1,5 +1,5 @@
 -- One case further, by whether it stands in the queue.
-use Rattle.std.proofs.Common.{◌≤◌, length, sym, ap, ◌∙◌, arith}
+use Rattle.std.proofs.Common.{length, sym, ap, arith}
 use Rattle.waiting.proofs.Fronts.{place_here, place_later, place_none}
 use Rattle.waiting.proofs.cases.count_places.Goals as goal
 use Rattle.waiting.proofs.cases.count_places.Goals.{then-stands, else-stands}

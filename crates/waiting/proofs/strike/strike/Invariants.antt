@@ -1,5 +1,5 @@
 -- The others so far stand in front, in their order.
-use Rattle.std.proofs.Common.{◌≡◌, not, eqb, vec_items, vec_len, vec_capacity}
+use Rattle.std.proofs.Common.{◌≡◌, not, eqb, vec_len, vec_capacity}
 use Rattle.std.proofs.lemmas.List.Filters.{FiltersInPlace}
 use Rattle.waiting.proofs.strike.strike.Given as goal
 

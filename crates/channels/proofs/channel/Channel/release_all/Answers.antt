@@ -47,7 +47,7 @@ pub returns : goal.returns
 returns g c =
     let n = c.args.self.now.number in
     let w = c.loop-entry.waiting in
-    let t = c.in-default.ensures in
+    let t = c.in_default.ensures in
     let none = freed_none n (line_of w) (table_of w) (sym t.answer) in
     let items = sym (append-nil (vec_items c.loop-entry.freed)) ∙ ap (λ l. vec_items c.loop-entry.freed ++ l) (sym none) ∙ c.loop-entry.invariant.0 in
     record {

@@ -1,6 +1,6 @@
 -- One routine further in the line.
-use Rattle.std.proofs.Common.{◌≡◌, length, get_or, sym, ap, ◌∙◌, arith}
-use Rattle.waiting.specs.Lines.{line_of, table_of}
+use Rattle.std.proofs.Common.{◌≡◌, length, get_or, ap, ◌∙◌, arith}
+use Rattle.waiting.specs.Lines.{line_of}
 use Rattle.waiting.specs.Queues.{queue, places, cases}
 use Rattle.waiting.proofs.Fronts.{length_step, queue_none}
 use Rattle.waiting.proofs.line.Waiting.count.Goals as goal

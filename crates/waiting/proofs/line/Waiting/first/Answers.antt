@@ -1,6 +1,6 @@
 -- One routine further in the line, by whether it has a place.
-use Rattle.std.proofs.Common.{◌≡◌, get_or, sym, ap, ◌∙◌, arith}
-use Rattle.waiting.specs.Lines.{line_of, table_of}
+use Rattle.std.proofs.Common.{get_or, sym, ap, ◌∙◌, arith}
+use Rattle.waiting.specs.Lines.{line_of}
 use Rattle.waiting.specs.Queues.{queue, places, first}
 use Rattle.waiting.proofs.Fronts.{front_here, front_later, queue_none}
 use Rattle.waiting.proofs.line.Waiting.first.Goals as goal
@@ -16,7 +16,7 @@ returns-in-Some g c =
 pub loop-next-preserved : goal.loop-next-preserved
 loop-next-preserved g c =
     sym (front_later c.args.side c.args.channel c.as_slice-line.result.now c.as_slice-table.result.now c.loop-next.next-index (omega arith)
-    (c.in-default.ensures ∙ ap (λ l. first (places c.args.side c.args.channel (get_or c.as_slice-line.result.now c.loop-next.next-index 0) 0 l)) c.cases_of.ensures.is))
+    (c.in_default.ensures ∙ ap (λ l. first (places c.args.side c.args.channel (get_or c.as_slice-line.result.now c.loop-next.next-index 0) 0 l)) c.cases_of.ensures.is))
     ∙ c.loop-next.invariant
 
 pub returns : goal.returns

@@ -39,17 +39,14 @@ push_reserved-requires g c =
     let parts = may_join_parts c.args.routine (length c.args.wishes.now) line (sym c.if-not-may_join.ensures) in
     omega (arith, room_left c.args.routine line parts.0 parts.2 c.args.self.now.once, c.args.self.now.line.ok.0, c.args.self.now.roomy)
 
-pub invariant-of-self : goal.invariant-of-self
-invariant-of-self g c =
+pub invariant_of-self : goal.invariant_of-self
+invariant_of-self g c =
     let line = line_of c.args.self.now in
     let parts = may_join_parts c.args.routine (length c.args.wishes.now) line (sym c.if-not-may_join.ensures) in
-    let room = room_left c.args.routine line parts.0 parts.2 c.args.self.now.once in (
-      c.args.self.now.whole,
-      (
-        omega (arith, c.args.self.now.roomy, c.push_reserved.ensures.capacity),
-        (
-          omega (arith, room, c.args.self.now.line.ok.0, c.push_reserved.ensures.len),
-          (ap (orderly 64) c.push_reserved.ensures.items ∙ orderly_push 64 c.args.routine line parts.0 parts.2 c.args.self.now.once, tt),
-        ),
-      ),
-    )
+    let room = room_left c.args.routine line parts.0 parts.2 c.args.self.now.once in
+    record {
+      whole = c.args.self.now.whole;
+      roomy = omega (arith, c.args.self.now.roomy, c.push_reserved.ensures.capacity);
+      few = omega (arith, room, c.args.self.now.line.ok.0, c.push_reserved.ensures.len);
+      once = ap (orderly 64) c.push_reserved.ensures.items ∙ orderly_push 64 c.args.routine line parts.0 parts.2 c.args.self.now.once;
+    }

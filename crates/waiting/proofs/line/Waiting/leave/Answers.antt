@@ -21,14 +21,10 @@ returns g c =
       steps = same_state _ _ (table_of c.args.self.now) _ c.strike.ensures.items refl;
     }
 
-pub invariant-of-self : goal.invariant-of-self
-invariant-of-self g c = (
-  c.args.self.now.whole,
-  (
-    omega (arith, c.args.self.now.roomy, c.strike.ensures.room),
-    (
-      omega (arith, c.args.self.now.few, c.strike.ensures.len),
-      (ap (orderly 64) c.strike.ensures.items ∙ orderly_without 64 c.args.routine (line_of c.args.self.now) c.args.self.now.once, tt),
-    ),
-  ),
-)
+pub invariant_of-self : goal.invariant_of-self
+invariant_of-self g c = record {
+  whole = c.args.self.now.whole;
+  roomy = omega (arith, c.args.self.now.roomy, c.strike.ensures.room);
+  few = omega (arith, c.args.self.now.few, c.strike.ensures.len);
+  once = ap (orderly 64) c.strike.ensures.items ∙ orderly_without 64 c.args.routine (line_of c.args.self.now) c.args.self.now.once;
+}
