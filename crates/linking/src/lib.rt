@@ -3,8 +3,8 @@
 
 mod bodies;
 mod declared;
-mod link;
 mod linked;
+mod linking;
 mod lookup;
 mod operation;
 mod stop;
@@ -14,7 +14,7 @@ mod tables;
 mod targets;
 
 pub use declared::Declared;
-pub use link::link;
 pub use linked::{Linked, Unlinked};
+pub use linking::link;
 pub use operation::{Exchange, Operation};
 pub use stop::Stop;

@@ -5,7 +5,7 @@ ghost use Rattle.std.specs.Option.{option_map};
 ghost use Rattle.words.specs.Spelled.{spelled};
 ghost use Rattle.lines.specs.Lines.{line_of, operand_of};
 ghost use Rattle.script.specs.Rules.{place};
-ghost use Rattle.linking.specs.Naming.{suits as is_suited, suited as suits_at, channel as channel_of, operand as operand_of, exchange as exchange_of, exchange_of, operation};
+ghost use Rattle.linking.specs.Naming.{suits as is_suited, suited as suits_at, channel as channel_of, operand as found_operand, exchange as found_exchange, exchange_of, operation};
 ghost use Rattle.linking.specs.declared.operation.Operation.TheVariants.{Alone, Case};
 ghost use Rattle.linking.specs.Seen.{known_of};
 
@@ -56,7 +56,7 @@ impl Symbols {
 
     // A channel operand by its number.
     fn operand(&self, wanted: Wanted, operand: Operand<Name>) -> Option<Operand<usize>>
-        ensures { result ≡ operand_of (known_of self.now) wanted (operand_of operand) }
+        ensures { result ≡ found_operand (known_of self.now) wanted (operand_of operand) }
     {
         match operand {
             Operand::Named(name) => Some(Operand::Named(self.channel(wanted, name)?)),
@@ -75,7 +75,7 @@ impl Symbols {
 impl Symbols {
     // A send or a receive with its channel's number.
     fn exchange(&self, exchange: Exchange<Name>) -> Option<Exchange<usize>>
-        ensures { result ≡ exchange_of (known_of self.now) (exchange_of exchange) }
+        ensures { result ≡ found_exchange (known_of self.now) (exchange_of exchange) }
     {
         match exchange {
             Exchange::Send(o, v) => Some(Exchange::Send(self.operand(Wanted::AValue, o)?, v)),
@@ -92,13 +92,13 @@ impl Symbols {
     }
 
     fn alone(&self, exchange: Exchange<Name>) -> Option<Operation>
-        ensures { result ≡ option_map Alone (exchange_of (known_of self.now) (exchange_of exchange)) }
+        ensures { result ≡ option_map Alone (found_exchange (known_of self.now) (exchange_of exchange)) }
     {
         Some(Operation::Alone(self.exchange(exchange)?))
     }
 
     fn case(&self, exchange: Exchange<Name>, target: u32) -> Option<Operation>
-        ensures { result ≡ option_map (λ e. Case e target) (exchange_of (known_of self.now) (exchange_of exchange)) }
+        ensures { result ≡ option_map (λ e. Case e target) (found_exchange (known_of self.now) (exchange_of exchange)) }
     {
         Some(Operation::Case(self.exchange(exchange)?, target))
     }

@@ -13,7 +13,7 @@ pub loop-i-preserved : goal.loop-i-preserved
 loop-i-preserved c =
     let ls = c.args.lines.now in
     let i = c.loop-i.i in
-    let made = c.in-ok-note.ensures in
+    let made = c.in_ok-note.ensures in
     let names = gather_more (λ l. option_to_list (opens (role l))) ls i (Set 0 (pos 0)) _ _ c.loop-i-test.true c.loop-i.invariant.0 in
     let bodies = sections_more ls i (Set 0 (pos 0)) _ _ c.loop-i-test.true c.loop-i.invariant.1 in
     let rest = take_rest ls (i + 1) in

@@ -11,7 +11,7 @@ pub loop-line-preserved : goal.loop-line-preserved
 loop-line-preserved c =
     let ls = c.args.lines.now in
     let i = c.loop-line.line-index in
-    let made = c.in-ok-note.ensures in
+    let made = c.in_ok-note.ensures in
     let names = gather_more (λ l. option_to_list (declares (role l))) ls i (Set 0 (pos 0)) _ _ c.loop-line-test.true c.loop-line.invariant.0 in
     let kinds = gather_more (λ l. declaration (role l)) ls i (Set 0 (pos 0)) _ _ c.loop-line-test.true c.loop-line.invariant.1 in
     (cc (made.0, names), cc (made.1, kinds))

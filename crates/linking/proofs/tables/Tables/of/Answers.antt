@@ -23,26 +23,26 @@ pub link_bodies-requires : goal.link_bodies-requires
 link_bodies-requires c =
     let ls = c.args.lines.now in
     let P : List Section → Type 0 = All (LiesIn (length ls)) in
-    subst P (sym (c.deref.ensures.value ∙ c.in-ok-symbols.ensures.bodies)) (sections_lie (length ls) 1 ls (omega arith))
+    subst P (sym (c.deref.ensures.value ∙ c.in_ok-symbols.ensures.bodies)) (sections_lie (length ls) 1 ls (omega arith))
 
-pub returns-in-err-code : goal.returns-in-err-code
-returns-in-err-code c =
-    let p = err_from_is_err_and c.from-residual-in-err-code.result c.from-residual-in-err-code.ensures.1 in
-    let s = c.in-ok-symbols.ensures in
+pub returns-in_err-code : goal.returns-in_err-code
+returns-in_err-code c =
+    let p = err_from_is_err_and c.from_residual-in_err-code.result c.from_residual-in_err-code.ensures.1 in
+    let s = c.in_ok-symbols.ensures in
     rw (p.1, p.2)
-    (script_stops (known_of c.in-ok-symbols.field-0.symbols) (map line_of c.args.lines.now) c.deref.result.now s.names
-    (surveyed_parts c.args.lines.now c.deref.result.now (c.deref.ensures.value ∙ s.bodies)) c.in-err-code.field-0.0 c.in-err-code.ensures)
+    (script_stops (known_of c.in_ok-symbols.field-0.symbols) (map line_of c.args.lines.now) c.deref.result.now s.names
+    (surveyed_parts c.args.lines.now c.deref.result.now (c.deref.ensures.value ∙ s.bodies)) c.in_err-code.field-0.0 c.in_err-code.ensures)
 
-pub returns-in-default : goal.returns-in-default
-returns-in-default c =
-    let s = c.in-ok-symbols.ensures in
-    script_linked (known_of c.in-ok-symbols.field-0.symbols) (map line_of c.args.lines.now) c.deref.result.now s.names
-    (surveyed_parts c.args.lines.now c.deref.result.now (c.deref.ensures.value ∙ s.bodies)) None (map (block (vec_items c.in-ok-code.code.operations)) (vec_items c.in-ok-code.code.bodies))
-    (c.in-default.ensures ∙ ap (λ l. place main_name (map spelled l)) c.deref-2.ensures.value) c.in-ok-code.ensures
+pub returns-in_default : goal.returns-in_default
+returns-in_default c =
+    let s = c.in_ok-symbols.ensures in
+    script_linked (known_of c.in_ok-symbols.field-0.symbols) (map line_of c.args.lines.now) c.deref.result.now s.names
+    (surveyed_parts c.args.lines.now c.deref.result.now (c.deref.ensures.value ∙ s.bodies)) None (map (block (vec_items c.in_ok-code.code.operations)) (vec_items c.in_ok-code.code.bodies))
+    (c.in_default.ensures ∙ ap (λ l. place main_name (map spelled l)) c.deref-2.ensures.value) c.in_ok-code.ensures
 
 pub returns : goal.returns
 returns c =
-    let s = c.in-ok-symbols.ensures in
-    script_linked (known_of c.in-ok-symbols.field-0.symbols) (map line_of c.args.lines.now) c.deref.result.now s.names
-    (surveyed_parts c.args.lines.now c.deref.result.now (c.deref.ensures.value ∙ s.bodies)) (Some c.in-Some.main) (map (block (vec_items c.in-ok-code.code.operations)) (vec_items c.in-ok-code.code.bodies))
-    (c.in-Some.ensures ∙ ap (λ l. place main_name (map spelled l)) c.deref-2.ensures.value) c.in-ok-code.ensures
+    let s = c.in_ok-symbols.ensures in
+    script_linked (known_of c.in_ok-symbols.field-0.symbols) (map line_of c.args.lines.now) c.deref.result.now s.names
+    (surveyed_parts c.args.lines.now c.deref.result.now (c.deref.ensures.value ∙ s.bodies)) (Some c.in-Some.main) (map (block (vec_items c.in_ok-code.code.operations)) (vec_items c.in_ok-code.code.bodies))
+    (c.in-Some.ensures ∙ ap (λ l. place main_name (map spelled l)) c.deref-2.ensures.value) c.in_ok-code.ensures
