@@ -14,3 +14,4 @@ pub mod Totals
 pub mod Runnable
 pub mod Placed
 pub mod LinksOnly
+pub mod Answered

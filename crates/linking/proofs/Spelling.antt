@@ -1,5 +1,5 @@
 -- What lines declare is the same whether names go by value or by their bytes.
-use Rattle.std.proofs.Common.{◌≡◌, ℕ, suc, ◌+◌, ◌≤◌, Bool, true, false, cond, not, List, [], ◌∷◌, ◌++◌, map, length, take, drop, sym, refl, ap, ◌∙◌, subst, arith}
+use Rattle.std.proofs.Common.{◌≡◌, ℕ, ◌+◌, ◌≤◌, cond, not, List, [], ◌∷◌, ◌++◌, map, length, take, drop, sym, refl, ap, ◌∙◌, arith}
 use Rattle.std.specs.Option.{option_to_list}
 use Rattle.std.specs.List.{prefix_len, AllByRecursion as All}
 use Rattle.std.proofs.lemmas.List.{append_assoc, map-append, length-append, drop_at}
@@ -15,9 +15,8 @@ use Rattle.lines.specs.Roles.{role}
 use Rattle.script.specs.Rules.{role_of, declares, opens}
 use Rattle.script_laws.specs.Lawful.{is_opens}
 use Rattle.linking.specs.declared.declared.Declared.{Declared}
-use Rattle.linking.specs.declared.declared.Section.{Section}
-use Rattle.linking.specs.Naming.{Known, known, declaration, channels, channel_names, body_names}
-use Rattle.linking.specs.Parts.{Part, own, parts}
+use Rattle.linking.specs.Naming.{known, declaration, channels, channel_names, body_names}
+use Rattle.linking.specs.Parts.{own, parts}
 use Rattle.linking.specs.Seen.{part_of, section, sections}
 use Rattle.linking.specs.Stages.{LiesIn}
 

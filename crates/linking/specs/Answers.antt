@@ -1,6 +1,5 @@
 -- What linking answers.
 use Rattle.std.specs.Prelude.{◌≡◌, ℕ, List, Ok, Err, Result}
-use Rattle.words.specs.declared.refusal.Fault.{Fault}
 use Rattle.lines.specs.declared.line.Line.{Line}
 use Rattle.script.specs.declared.state.Read.{Read}
 use Rattle.script.specs.States.{script_of}
@@ -33,5 +32,5 @@ NoneFor ls (Faulty f) = (p : Program) → StandsFor ls p → Sound p → ⊥
 NoneFor ls Memory = Unit {0}
 
 abbrev pub Exact : List (Line (List ℕ)) → Result Linked Unlinked → Type 0
-Exact ls (Ok l) = StandsFor ls (linked_program l) × Sound (linked_program l)
+Exact ls (Ok l) = ∥ StandsFor ls (linked_program l) × Sound (linked_program l) ∥₁
 Exact ls (Err u) = NoneFor ls u.stop

@@ -1,7 +1,5 @@
 -- What a program has to do with the script that it was linked from.
-use Rattle.std.specs.Prelude.{◌≡◌, ℕ, List, [], map, Some, Ok, Err, slice_index_or}
-use Rattle.std.specs.List.{slice_get}
-use Rattle.words.specs.declared.refusal.Fault.{Fault}
+use Rattle.std.specs.Prelude.{◌≡◌, ℕ, List, [], map, Ok, slice_index_or}
 use Rattle.lines.specs.declared.line.Operand.{Operand}
 use Rattle.lines.specs.declared.line.Operand.TheVariants.{Named, Held}
 use Rattle.lines.specs.declared.line.Line.{Line}

@@ -1,7 +1,6 @@
 -- What the tables of linking stand for.
 use Rattle.std.specs.Prelude.{ℕ, ◌+◌, not, List, [], ◌∷◌, ◌++◌, map, take, drop, vec_items}
 use Rattle.std.specs.List.{prefix_len}
-use Rattle.words.specs.declared.name.Name.{Name}
 use Rattle.words.specs.Spelled.{spelled}
 use Rattle.lines.specs.declared.line.Line.{Line}
 use Rattle.lines.specs.declared.line.Role.{Role}

@@ -1,4 +1,4 @@
-use Rattle.std.proofs.Common.{◌≡◌, true, false, not, get_or, pos, sym, ap, ◌∙◌, arith}
+use Rattle.std.proofs.Common.{not, pos, sym, ap, arith}
 use Rattle.std.proofs.lemmas.List.Sums.{prefix_len-drop_yes, prefix_len-drop_no, prefix_len-drop_all}
 use Rattle.lines.specs.declared.line.Line.TheVariants.{Set}
 use Rattle.lines.specs.Roles.{role}

@@ -1,11 +1,9 @@
-use Rattle.std.proofs.Common.{◌≡◌, ◌+◌, ◌++◌, drop, pos, sym, ap, ◌∙◌}
+use Rattle.std.proofs.Common.{◌+◌, pos}
 use Rattle.std.specs.Option.{option_to_list}
 use Rattle.std.proofs.lemmas.List.{take_rest}
 use Rattle.lines.specs.declared.line.Line.TheVariants.{Set}
 use Rattle.lines.specs.Roles.{role}
 use Rattle.script.specs.Rules.{opens}
-use Rattle.linking.specs.Naming.{body_names}
-use Rattle.linking.specs.Seen.{section, sections}
 use Rattle.linking.proofs.Gather.{gather_more, gather_all, sections_more, sections_all}
 use Rattle.linking.proofs.survey.Bodies.of.Goals as goal
 

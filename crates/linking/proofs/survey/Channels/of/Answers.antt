@@ -1,9 +1,9 @@
-use Rattle.std.proofs.Common.{◌≡◌, ◌+◌, ◌++◌, drop, pos, sym, ap, ◌∙◌}
+use Rattle.std.proofs.Common.{pos}
 use Rattle.std.specs.Option.{option_to_list}
 use Rattle.lines.specs.declared.line.Line.TheVariants.{Set}
 use Rattle.lines.specs.Roles.{role}
 use Rattle.script.specs.Rules.{declares}
-use Rattle.linking.specs.Naming.{declaration, channels, channel_names}
+use Rattle.linking.specs.Naming.{declaration}
 use Rattle.linking.proofs.Gather.{gather_more, gather_all}
 use Rattle.linking.proofs.survey.Channels.of.Goals as goal
 
