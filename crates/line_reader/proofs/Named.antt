@@ -1,10 +1,10 @@
 -- A word that is read as a name is one.
-use Rattle.std.proofs.Common.{◌≡◌, ℕ, ◌-◌, Bool, true, false, cond, eqb, ◌⊎◌, List, get_or, take, drop, ℤ, Some, None, Ok, Err, Option, Result, sym, refl, ap, ◌∙◌, subst, inl, inr, ⊎_elim, arith}
+use Rattle.std.proofs.Common.{◌≡◌, ℕ, Bool, true, false, cond, eqb, List, get_or, take, drop, ℤ, Some, None, Ok, Err, Option, Result, sym, refl, ap, ◌∙◌, arith}
 use Rattle.std.proofs.lemmas.Bool.{cond-true}
 use Rattle.words.specs.declared.refusal.Fault.{Fault}
 use Rattle.words.specs.Names.{is_name}
 use Rattle.words.specs.Refusals.{broken}
-use Rattle.words.specs.Words.{Said, name, number, value, handle, span, register, number_of, numbered, word_of, with_rest, read_word}
+use Rattle.words.specs.Words.{Said, name, span, register, number_of, numbered, word_of, with_rest, read_word}
 use Rattle.lines.specs.Lines.{read_field}
 
 -- where the answer is a name, it is one

@@ -1,5 +1,5 @@
 -- A line of several fields, read one after another.
-use Rattle.std.proofs.Common.{◌≡◌, ℕ, List, [], ◌∷◌, Ok, Err, Result, sym, refl, ap, ◌∙◌, arith}
+use Rattle.std.proofs.Common.{◌≡◌, ℕ, List, [], ◌∷◌, Ok, Err, ap, ◌∙◌, arith}
 use Rattle.words.specs.declared.refusal.Fault.{Fault}
 use Rattle.lines.specs.declared.line.Line.{Line}
 use Rattle.lines.specs.Lines.{Reader, then, both, ended, whole}

@@ -1,5 +1,5 @@
 -- What a line of the text is: a mark and its fields.
-use Rattle.std.specs.Prelude.{◌≡◌, ℕ, Bool, true, false, cond, ◌&&◌, List, [], ◌∷◌, ◌++◌, drop, ℤ, pos, negsuc, Some, None, Ok, Err, Option, Result, ◌==◌, slice_index}
+use Rattle.std.specs.Prelude.{ℕ, cond, ◌&&◌, List, [], ◌∷◌, drop, ℤ, pos, negsuc, Some, None, Ok, Err, Option, Result, ◌==◌, slice_index}
 use Rattle.words.specs.declared.refusal.Fault.{Fault}
 use Rattle.words.specs.declared.name.Name.{Name}
 use Rattle.words.specs.Refusals.{broken}

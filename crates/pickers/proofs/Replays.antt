@@ -1,16 +1,16 @@
 -- A schedule made of the answers that a picker gave gives the same answers.
-use Rattle.std.proofs.Common.{◌≡◌, ℕ, Bool, true, false, cond, not, ◌&&◌, eqb, List, [], ◌∷◌, ◌++◌, is_some, Some, None, Option, sym, refl, ap, ◌∙◌}
+use Rattle.std.proofs.Common.{◌≡◌, ℕ, Bool, true, false, cond, not, eqb, List, [], ◌∷◌, is_some, Some, None, Option, sym, refl, ap, ◌∙◌}
 use Rattle.std.proofs.lemmas.Bool.{and_from, and_parts, eq-eqb, eqb-true, not-true, not_from_false, true≢false, false≢true}
 use Rattle.pickers.specs.declared.picker.Query.{Query}
 use Rattle.pickers.specs.declared.schedule.Pick.{Pick}
 use Rattle.pickers.specs.declared.choosing.Choice.{Choice}
 use Rattle.pickers.specs.declared.choosing.Choice.TheVariants.{Asked}
-use Rattle.pickers.specs.Sets.{has, cases, first, OneOf}
-use Rattle.pickers.specs.Meaning.{Meaning, Lawful, Fair, answer, after, answers, after_all}
+use Rattle.pickers.specs.Sets.{has, cases, first}
+use Rattle.pickers.specs.Meaning.{Meaning, Lawful, answer, after, answers, after_all}
 use Rattle.pickers.specs.Schedule.{serves, served, left, scheduled}
 use Rattle.pickers.specs.ScheduleFacts.{served_empty}
 use Rattle.pickers.specs.Choosing.{several, only, choices, consulted}
-use Rattle.pickers.specs.Recording.{AllWithin, pick_of, picks_of, named, naming, steady, unnamed, none_last, none_at_empty, Replayed, Replays, ReplaysChoices}
+use Rattle.pickers.specs.Recording.{AllWithin, picks_of, named, naming, steady, unnamed, none_last, none_at_empty, Replays, ReplaysChoices}
 
 -- the answers of a lawful meaning lie in their sets
 pub answers_within : (m : Meaning) → Lawful m → (qs : List Query) → AllWithin qs (answers m qs)

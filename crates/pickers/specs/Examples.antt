@@ -1,9 +1,9 @@
 -- Worked examples. A set is written as the number with a 1 for each ready case: 5 is {0, 2}, 4 is {2}, 0 is empty.
-use Rattle.std.specs.Prelude.{◌≡◌, ℕ, List, [], ◌∷◌, Some, None, Option}
+use Rattle.std.specs.Prelude.{◌≡◌, ℕ, List, [], ◌∷◌, Some, None}
 use Rattle.pickers.specs.declared.picker.Query.{Query}
 use Rattle.pickers.specs.declared.schedule.Pick.{Pick}
 use Rattle.pickers.specs.declared.choosing.Choice.TheVariants.{NoneReady, OneReady, Asked}
-use Rattle.pickers.specs.Meaning.{Meaning, answers, after_all}
+use Rattle.pickers.specs.Meaning.{answers, after_all}
 use Rattle.pickers.specs.Turning.{fresh_turning}
 use Rattle.pickers.specs.Schedule.{scheduled}
 use Rattle.pickers.specs.Choosing.{chosen}

@@ -1,5 +1,5 @@
 -- What a picker means: the answers that it gives, whatever it keeps to find them.
-use Rattle.std.specs.Prelude.{◌≡◌, ℕ, List, [], ◌∷◌, ◌++◌, Some, None, Option}
+use Rattle.std.specs.Prelude.{◌≡◌, ℕ, List, [], ◌∷◌, ◌++◌, None, Option}
 use Rattle.pickers.specs.declared.picker.Query.{Query}
 use Rattle.pickers.specs.Sets.{OneOf}
 

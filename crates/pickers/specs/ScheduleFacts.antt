@@ -1,12 +1,12 @@
 -- The schedule picker keeps the laws of pickers: what its member `lawful` cites.
-use Rattle.std.specs.Prelude.{◌≡◌, ℕ, Bool, true, false, cond, ◌&&◌, List, [], ◌∷◌, Some, None, Option, ◌==◌, refl}
-use Rattle.std.proofs.Common.{sym, ap, ◌∙◌}
+use Rattle.std.specs.Prelude.{◌≡◌, Bool, true, false, cond, List, [], ◌∷◌, Some, None, ◌==◌, refl}
+use Rattle.std.proofs.Common.{ap, ◌∙◌}
 use Rattle.std.proofs.lemmas.Bool.{and_parts, and_right}
 use Rattle.pickers.specs.declared.picker.Query.{Query}
 use Rattle.pickers.specs.declared.schedule.Pick.{Pick}
 use Rattle.pickers.specs.Sets.{has, OneOf}
 use Rattle.pickers.specs.SetFacts.{has_none}
-use Rattle.pickers.specs.Meaning.{Meaning, Lawful, Fair}
+use Rattle.pickers.specs.Meaning.{Lawful}
 use Rattle.pickers.specs.Schedule.{serves, served, left, scheduled}
 
 cond_within : (p : Pick) (q : Query) (b : Bool) → serves p q ≡ b → OneOf q.ready (cond b (Some p.case) None)

@@ -1,5 +1,5 @@
 -- What a turning picker means: the cases take turns.
-use Rattle.std.specs.Prelude.{ℕ, ◌+◌, List, [], ◌∷◌, Some, None, Option}
+use Rattle.std.specs.Prelude.{ℕ, ◌+◌, [], ◌∷◌, Some, None, Option}
 use Rattle.std.specs.Option.{unwrap_or}
 use Rattle.pickers.specs.Sets.{cases, onward, first}
 use Rattle.pickers.specs.Meaning.{Meaning}

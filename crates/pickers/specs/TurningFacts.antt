@@ -1,10 +1,10 @@
 -- The turning picker keeps the laws of pickers: what its member `lawful` cites.
-use Rattle.std.specs.Prelude.{◌≡◌, ℕ, ◌+◌, List, [], ◌∷◌, Some, None, Option, refl}
-use Rattle.std.proofs.Common.{sym, ap, ◌∙◌}
+use Rattle.std.specs.Prelude.{◌≡◌, ℕ, ◌+◌, [], ◌∷◌, Some, None, Option}
+use Rattle.std.proofs.Common.{ap, ◌∙◌}
 use Rattle.std.specs.Option.{unwrap_or}
 use Rattle.pickers.specs.Sets.{cases, onward, first, OneOf}
 use Rattle.pickers.specs.SetFacts.{onward_within, lowest_within, onward_empty, cases_empty}
-use Rattle.pickers.specs.Meaning.{Meaning, Lawful, Fair}
+use Rattle.pickers.specs.Meaning.{Lawful}
 use Rattle.pickers.specs.Turning.{or_else, turned, turning}
 
 either_within : (s : ℕ) (a b : Option ℕ) → OneOf s a → OneOf s b → OneOf s (or_else a b)

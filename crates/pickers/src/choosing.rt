@@ -16,8 +16,8 @@ pub enum Choice {
 
 // No case of an empty set, the one case of a set of one, and else what the picker answers.
 pub fn choose<P: Picker>(picker: &mut P, query: Query) -> Choice
-    ensures value { result ≡ chosen (meaning picker.old) query }
-    ensures then { meaning picker.new ≡ after_choice (meaning picker.old) query }
+    ensures value { result ≡ chosen (P.meaning picker.old) query }
+    ensures then { P.meaning picker.new ≡ after_choice (P.meaning picker.old) query }
     ensures ready { OneOf query.ready (taken result) }
 {
     if count(query.ready) >= 2 {

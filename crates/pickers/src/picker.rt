@@ -27,8 +27,8 @@ pub trait Picker {
 
 // The picker's answer to a query, which by its laws is none or a ready case.
 pub(crate) fn ask<P: Picker>(picker: &mut P, query: Query) -> Option<u8>
-    ensures value { result ≡ answer (meaning picker.old) query }
-    ensures then { meaning picker.new ≡ after (meaning picker.old) query }
+    ensures value { result ≡ answer (P.meaning picker.old) query }
+    ensures then { P.meaning picker.new ≡ after (P.meaning picker.old) query }
     ensures within { OneOf query.ready result }
 {
     picker.pick(query)

@@ -15,7 +15,7 @@ use Rattle.text_laws.proofs.Numbers.{either}
 use Rattle.text_laws.proofs.WordLaws.{err_ok, ok_same}
 use Rattle.text_laws.proofs.LineLaws.{lists_back}
 use Rattle.script.specs.Rules.{Standing, fresh, standing, judge}
-use Rattle.script.specs.Texts.{pieces, none_left, read_piece, admitted, judged, read_on, read_script, show}
+use Rattle.script.specs.Texts.{pieces, none_left, read_piece, admitted, judged, read_on, read_script}
 use Rattle.script.specs.Kept.{Admitted, Kept}
 use Rattle.script.proofs.Relisting.{script_lists_back}
 

@@ -1,5 +1,5 @@
 -- One line read into a draft, and what is left of the text.
-use Rattle.std.proofs.Common.{◌≡◌, ℕ, ◌+◌, ◌<◌, ◌≤◌, Bool, true, false, cond, eqb, ltb, ◌⊎◌, List, [], ◌∷◌, ◌++◌, length, take, drop, Some, None, Ok, Err, Option, Result, sym, refl, ap, ◌∙◌, subst, inl, inr, ⊎_elim, arith}
+use Rattle.std.proofs.Common.{◌≡◌, ℕ, ◌+◌, ◌<◌, ◌≤◌, true, eqb, ltb, List, [], ◌∷◌, ◌++◌, length, take, drop, Some, None, Ok, Err, Result, sym, refl, ap, ◌∙◌, ⊎_elim, arith}
 use Rattle.std.proofs.lemmas.List.{append_assoc, append-nil, length-drop}
 use Rattle.std.proofs.lemmas.Bool.{ltb-true, ltb-false}
 use Rattle.words.specs.declared.refusal.Refusal.{Refusal}
@@ -13,7 +13,7 @@ use Rattle.text_laws.proofs.Numbers.{either}
 use Rattle.text_laws.proofs.WordLaws.{err_ok, ok_same}
 use Rattle.script.specs.declared.draft.Draft.{Draft}
 use Rattle.script.specs.Rules.{Standing, standing, judge}
-use Rattle.script.specs.Texts.{pieces, none_left, read_piece, admitted, judged, read_on}
+use Rattle.script.specs.Texts.{pieces, read_piece, admitted, judged, read_on}
 use Rattle.script.specs.Ended.{ended}
 use Rattle.script.specs.Drafts.{seen, lines_of, Added, behind, reading}
 use Rattle.script.proofs.Pieces.{pieces_cut, pieces_open, none_pieces, free_front, piece_line, piece_open}

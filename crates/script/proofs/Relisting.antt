@@ -1,7 +1,7 @@
 -- A text that is read is what is listed of its lines.
-use Rattle.std.proofs.Common.{◌≡◌, ℕ, suc, ◌+◌, ◌≤◌, Bool, true, false, cond, eqb, ltb, ◌⊎◌, List, [], ◌∷◌, ◌++◌, map, length, take, Some, None, Ok, Err, vec_items, vec_len, Option, Result, sym, refl, ap, ◌∙◌, subst, inl, inr, ⊎_elim, arith}
+use Rattle.std.proofs.Common.{◌≡◌, ℕ, suc, ◌+◌, ◌≤◌, Bool, true, false, eqb, ltb, List, [], ◌∷◌, ◌++◌, map, length, take, Some, None, Ok, Err, vec_items, vec_len, Option, Result, sym, refl, ap, ◌∙◌, ⊎_elim, arith}
 use Rattle.std.proofs.lemmas.List.{append_assoc, nil_from_length}
-use Rattle.std.proofs.lemmas.Bool.{cond-false, cond-true, le-ltb, lt-ltb, eqb-true}
+use Rattle.std.proofs.lemmas.Bool.{cond-false, le-ltb, eqb-true}
 use Rattle.words.specs.declared.refusal.Refusal.{Refusal}
 use Rattle.words.specs.declared.refusal.Refusal.TheVariants.{Overlong}
 use Rattle.words.specs.declared.refusal.Fault.{Fault}
@@ -19,7 +19,7 @@ use Rattle.script.specs.declared.draft.Draft.{Draft}
 use Rattle.script.specs.declared.tally.Tally.{Tally}
 use Rattle.script.specs.Rules.{Standing, nothing, fresh, standing, judge}
 use Rattle.script.specs.Texts.{onto, pieces, none_left, read_piece, admitted, judged, read_on, read_script, show}
-use Rattle.script.specs.Drafts.{seen, lines_of, Blank, behind, reading}
+use Rattle.script.specs.Drafts.{seen, Blank, behind, reading}
 use Rattle.script.proofs.Pieces.{piece_ended}
 use Rattle.script.proofs.Stands.{same_standing}
 

@@ -1,5 +1,5 @@
 -- Listing one line more.
-use Rattle.std.proofs.Common.{◌≡◌, ℕ, ◌+◌, ◌<◌, ◌≤◌, cond, ltb, leb, List, [], ◌∷◌, ◌++◌, map, length, get_or, take, drop, Ok, Err, sym, refl, ap, ◌∙◌, zero-add, arith}
+use Rattle.std.proofs.Common.{◌≡◌, ℕ, ◌+◌, ◌<◌, ◌≤◌, ltb, leb, List, [], ◌∷◌, ◌++◌, map, length, get_or, take, drop, Ok, Err, sym, refl, ap, ◌∙◌, zero-add, arith}
 use Rattle.std.proofs.lemmas.List.{append_assoc, length-append, map-append, map_push, take_more, take-append-drop, take_all}
 use Rattle.std.proofs.lemmas.Bool.{cond-true, cond-false, le-leb, le-ltb, lt-ltb}
 use Rattle.words.specs.declared.refusal.Refusal.TheVariants.{Small}
@@ -8,7 +8,6 @@ use Rattle.words.specs.Shows.{written, Wrote, Put}
 use Rattle.lines.specs.declared.line.Line.{Line}
 use Rattle.lines.specs.Lines.{line_of}
 use Rattle.lines.specs.Shows.{show_line}
-use Rattle.text_laws.proofs.WordLaws.{ok_same}
 use Rattle.script.specs.Texts.{show}
 use Rattle.script.specs.States.{Printed}
 

@@ -1,9 +1,9 @@
 -- A text is read exactly if it lists a lawful script.
-use Rattle.std.proofs.Common.{◌≡◌, ℕ, List, Ok, Result, sym, ap, ◌∙◌, subst}
+use Rattle.std.proofs.Common.{◌≡◌, ℕ, List, Result, sym, ap, ◌∙◌}
 use Rattle.words.specs.declared.refusal.Fault.{Fault}
 use Rattle.lines.specs.declared.line.Line.{Line}
-use Rattle.script.specs.Texts.{read_script, show}
-use Rattle.script_laws.specs.Exact.{Lists, Exactly}
+use Rattle.script.specs.Texts.{read_script}
+use Rattle.script_laws.specs.Exact.{Exactly}
 use Rattle.script_laws.proofs.Kept.{accepts_kept, accepts_only}
 use Rattle.script_laws.proofs.Whole.{accepts_lawful, lawful_kept}
 

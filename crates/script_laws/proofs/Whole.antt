@@ -185,24 +185,24 @@ lawful_admitted ls w =
     admitted_ahead fresh ls
     (record {
       room = record {
-        channels = omega (arith, w.few-channels);
-        bodies = omega (arith, w.few-bodies);
-        lines = omega (arith, w.few-lines);
-        values = omega (arith, w.value-cells);
-        handles = omega (arith, w.handle-cells);
+        channels = omega (arith, w.few_channels);
+        bodies = omega (arith, w.few_bodies);
+        lines = omega (arith, w.few_lines);
+        values = omega (arith, w.value_cells);
+        handles = omega (arith, w.handle_cells);
       };
       stands = record {
-        outside = λ z. (w.channels-first, w.bodies-last);
+        outside = λ z. (w.channels_first, w.bodies_last);
         inside = λ z. absurd (omega arith);
-        front = first (roles ls) w.channels-first;
-        cases = w.cases-follow;
+        front = first (roles ls) w.channels_first;
+        cases = w.cases_follow;
         once = omega arith;
-        defaults = w.one-default;
+        defaults = w.one_default;
       };
-      channels = w.channels-differ;
-      bodies = w.bodies-differ;
-      cells = w.small-channels;
-      selects = w.small-selects;
+      channels = w.channels_differ;
+      bodies = w.bodies_differ;
+      cells = w.small_channels;
+      selects = w.small_selects;
     })
 
 pub lawful_kept : LawfulKept

@@ -1,8 +1,8 @@
 -- One write after another.
-use Rattle.std.proofs.Common.{◌≡◌, ℕ, ◌+◌, ◌-◌, ◌/◌, ◌%◌, ◌^◌, ◌<◌, ◌≤◌, cond, leb, List, [], ◌∷◌, ◌++◌, length, take, drop, set, Ok, Err, decimal, sym, refl, ap, ◌∙◌, add-zero, add-one, arith}
+use Rattle.std.proofs.Common.{◌≡◌, ℕ, ◌+◌, ◌/◌, ◌%◌, ◌^◌, ◌<◌, ◌≤◌, leb, List, [], ◌∷◌, ◌++◌, length, take, drop, set, Ok, Err, decimal, sym, refl, ap, ◌∙◌, add-zero, add-one, arith}
 use borrow.Rule.Slice.PartMut.{put_mid}
 use Rattle.std.proofs.lemmas.Fmt.{decimal_step}
-use Rattle.std.proofs.lemmas.List.{take-append-drop, append_assoc, append-nil, length-append, length_push, length-take-le, length-drop, take_at, drop_at, drop-drop, set_split, take-append-le, drop-append-le}
+use Rattle.std.proofs.lemmas.List.{take-append-drop, append_assoc, length-append, length_push, length-take-le, length-drop, take_at, drop_at, drop-drop, set_split}
 use Rattle.std.proofs.lemmas.Bool.{cond-true, cond-false, le-leb, lt-leb}
 use Rattle.words.specs.declared.refusal.Refusal.TheVariants.{Small}
 use Rattle.words.specs.Shows.{written, Wrote, Put}

@@ -10,6 +10,6 @@ returns-in-32 c =
     let e = simp take_rest at c.next_word.ensures in
     rw (first, e)
 
-pub returns-in-default : goal.returns-in-default
+pub returns-in_default : goal.returns-in_default
 unfolding read_field
-returns-in-default c = search rules
+returns-in_default c = search rules

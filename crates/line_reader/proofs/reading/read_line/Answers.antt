@@ -1,10 +1,6 @@
-use Rattle.std.proofs.Common.{◌≡◌, get_or, drop, Err, sym, ap, ◌∙◌, arith, ltb-true}
-use Rattle.std.proofs.lemmas.List.{get_or_past}
-use Rattle.std.proofs.lemmas.Bool.Decides.{nat_tests}
-use Rattle.lines.specs.Lines.{formats}
-use Rattle.lines.proofs.Marks.{at_mark, no_mark, marked}
+use Rattle.std.proofs.Common.{◌∙◌, arith}
+use Rattle.lines.proofs.Marks.{at_mark}
 use Rattle.line_reader.proofs.reading.read_line.Goals as goal
-use Rattle.line_reader.proofs.reading.read_line.Goals.{in-default-via-then-bytes-lt2, in-default-via-else-bytes-lt2+in-83·+in-default·, in-default-via-else-bytes-lt2+in-65·+in-default·, in-default-via-else-bytes-lt2+in-74·+in-default·, in-default-via-else-bytes-lt2+in-72·+in-default·, in-default-via-else-bytes-lt2+in-82·+in-default·, in-default-via-else-bytes-lt2+in-67·+in-default·, in-default-via-else-bytes-lt2+in-71·+in-default·, in-default-via-else-bytes-lt2+in-80·+in-default·, in-default-via-else-bytes-lt2+in-86·+in-default·, in-default-via-else-bytes-lt2+in-default·}
 
 pub returns-in-83 : goal.returns-in-83
 returns-in-83 c = c.read_set.ensures ∙ at_mark c.args.line c.args.bytes.now 83 86 (omega arith) (omega arith)
@@ -74,19 +70,3 @@ returns-in-72-3 c = c.read_handle_channel.ensures ∙ at_mark c.args.line c.args
 
 pub returns-in-82-3 : goal.returns-in-82-3
 returns-in-82-3 c = c.read_routine.ensures ∙ at_mark c.args.line c.args.bytes.now 82 84 (omega arith) (omega arith)
-
-pub returns-in-default : goal.returns-in-default
-returns-in-default c =
-    elim c.in-default.branch [
-      | in-default-via-then-bytes-lt2 w ↦ let z : get_or c.args.bytes.now 1 0 ≡ 0 = get_or_past c.args.bytes.now 1 0 (omega (arith, ltb-true)) in rw z (ap Err c.broken.ensures ∙ sym (no_mark formats marked c.args.line (get_or c.args.bytes.now 0 0) (drop 2 c.args.bytes.now)))
-      | in-default-via-else-bytes-lt2+in-83·+in-default· w ↦ let e : get_or c.args.bytes.now 0 0 ≡ 83 = omega arith in rw e (grind (arith, nat_tests))
-      | in-default-via-else-bytes-lt2+in-65·+in-default· w ↦ let e : get_or c.args.bytes.now 0 0 ≡ 65 = omega arith in rw e (grind (arith, nat_tests))
-      | in-default-via-else-bytes-lt2+in-74·+in-default· w ↦ let e : get_or c.args.bytes.now 0 0 ≡ 74 = omega arith in rw e (grind (arith, nat_tests))
-      | in-default-via-else-bytes-lt2+in-72·+in-default· w ↦ let e : get_or c.args.bytes.now 0 0 ≡ 72 = omega arith in rw e (grind (arith, nat_tests))
-      | in-default-via-else-bytes-lt2+in-82·+in-default· w ↦ let e : get_or c.args.bytes.now 0 0 ≡ 82 = omega arith in rw e (grind (arith, nat_tests))
-      | in-default-via-else-bytes-lt2+in-67·+in-default· w ↦ let e : get_or c.args.bytes.now 0 0 ≡ 67 = omega arith in rw e (grind (arith, nat_tests))
-      | in-default-via-else-bytes-lt2+in-71·+in-default· w ↦ let e : get_or c.args.bytes.now 0 0 ≡ 71 = omega arith in rw e (grind (arith, nat_tests))
-      | in-default-via-else-bytes-lt2+in-80·+in-default· w ↦ let e : get_or c.args.bytes.now 0 0 ≡ 80 = omega arith in rw e (grind (arith, nat_tests))
-      | in-default-via-else-bytes-lt2+in-86·+in-default· w ↦ let e : get_or c.args.bytes.now 0 0 ≡ 86 = omega arith in rw e (grind (arith, nat_tests))
-      | in-default-via-else-bytes-lt2+in-default· w ↦ grind (arith, nat_tests)
-    ]

@@ -1,6 +1,5 @@
-use Rattle.std.proofs.Common.{◌≡◌, length, sym, ap, arith}
-use Rattle.std.proofs.lemmas.Fmt.{decimal_digit, decimal_step}
-use Rattle.std.proofs.lemmas.List.{length_push}
+use Rattle.std.proofs.Common.{length, sym, ap, arith}
+use Rattle.std.proofs.lemmas.Fmt.{decimal_digit}
 use Rattle.words.proofs.Writes.{longer}
 use Rattle.words.proofs.listing.+decimal_len.Goals as goal
 

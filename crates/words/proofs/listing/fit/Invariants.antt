@@ -1,5 +1,4 @@
-use Rattle.std.proofs.Common.{◌≡◌, ◌+◌, map, length}
-use Rattle.words.specs.Shows.{field_said}
+use Rattle.std.proofs.Common.{◌≡◌, ◌+◌, length}
 use Rattle.words.proofs.Fields.{shown}
 use Rattle.words.proofs.listing.fit.Given as goal
 

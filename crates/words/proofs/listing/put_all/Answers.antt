@@ -1,4 +1,4 @@
-use Rattle.std.proofs.Common.{◌≡◌, ◌+◌, [], ◌∷◌, map, length, get_or, sym, refl, ap, ◌∙◌, arith}
+use Rattle.std.proofs.Common.{◌∷◌, map, get_or, sym, arith}
 use Rattle.std.proofs.lemmas.List.{length-append}
 use Rattle.words.specs.Shows.{show_word, show_fields, field_said}
 use Rattle.words.proofs.Fields.{unset, shown, shown_more, shown_room, shown_all}

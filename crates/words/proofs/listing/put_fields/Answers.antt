@@ -1,4 +1,4 @@
-use Rattle.std.proofs.Common.{◌++◌, map, length, sym, arith}
+use Rattle.std.proofs.Common.{map, sym, arith}
 use Rattle.std.proofs.lemmas.List.{length-append}
 use Rattle.std.proofs.lemmas.Bool.{leb-true, leb-false}
 use Rattle.words.specs.Shows.{show_fields, field_said}

@@ -5,12 +5,12 @@ use Rattle.script.proofs.Kept.{read_kept}
 use Rattle.script.proofs.Relisting.{script_lists_back, from_blank, blank}
 use Rattle.script.proofs.state.Empty.read.Goals as goal
 
-pub invariant-of-result : goal.invariant-of-result
-invariant-of-result c =
+pub invariant_of-result : goal.invariant_of-result
+invariant_of-result c =
     let e = c.args.self in
     let t = c.args.text.now in
     let all = c.in-Ok.ensures ∙ from_blank e.draft t (blank e.draft e.none e.unfilled e.idle) (omega arith) in
-    (ap length (sym (script_lists_back t (lines_of c.read_text.new.self) (sym all))), (∣ read_kept t (lines_of c.read_text.new.self) (sym all) ∣₁, tt))
+    record { sized = ap length (sym (script_lists_back t (lines_of c.read_text.new.self) (sym all))); kept = ∣ read_kept t (lines_of c.read_text.new.self) (sym all) ∣₁ }
 
 pub returns-in-Ok : goal.returns-in-Ok
 returns-in-Ok c =

@@ -1,11 +1,11 @@
-use Rattle.std.proofs.Common.{◌≡◌, ℕ, ◌≤◌, List, [], ◌∷◌, ◌++◌, map, length, get_or, pos, sym, ap, ◌∙◌, subst, arith}
+use Rattle.std.proofs.Common.{ℕ, ◌≤◌, List, [], ◌∷◌, ◌++◌, map, length, get_or, pos, ap, ◌∙◌, subst, arith}
 use Rattle.words.specs.Shows.{Wrote}
 use Rattle.words.proofs.Writes.{wrote_none, wrote_then}
 use Rattle.lines.specs.declared.line.Line.TheVariants.{Set}
 use Rattle.lines.specs.Lines.{line_of}
 use Rattle.lines.specs.Shows.{show_line}
 use Rattle.script.specs.Texts.{show}
-use Rattle.script.proofs.Showing.{shown, shown_more, shown_room, shown_all, shown_none, printed_all, printed_none}
+use Rattle.script.proofs.Showing.{shown, shown_more, shown_room, shown_all, shown_none, printed_all}
 use Rattle.script.proofs.state.Read.list.Goals as goal
 
 pub loop-line-init : goal.loop-line-init
@@ -24,7 +24,7 @@ loop-line-preserved c =
     let whole = ap (λ l. length (show (map line_of l))) c.deref-line-items.ensures.value in
     let room : length (shown ls i) ≤ length c.args.out.now = omega (arith, shown_room ls i (Set 0 (pos 0)) c.loop-line-test.true, whole, c.args.self.now.sized) in
     rw (shown_more ls i (Set 0 (pos 0)) c.loop-line-test.true)
-    (wrote_then c.args.out.now 0 (shown ls i) _ _ (show_line (line_of (get_or ls i (Set 0 (pos 0)))) ++ (10 ∷ [])) _ _ (omega arith) c.loop-line.invariant c.in-ok-at.ensures)
+    (wrote_then c.args.out.now 0 (shown ls i) _ _ (show_line (line_of (get_or ls i (Set 0 (pos 0)))) ++ (10 ∷ [])) _ _ (omega arith) c.loop-line.invariant c.in_ok-at.ensures)
 
 pub returns : goal.returns
 returns c =
