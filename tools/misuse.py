@@ -1,7 +1,8 @@
 #!/usr/bin/env python3
 """Shows that a misuse does not compile: makes one edit in a copy of the repository and runs the check, which must
 stop at the edited line with the compiler's error for the use of a moved value. The gate's own must-fail edits have
-to reach the prover, and these do not get that far. Last line: 'N refused, M compiled'."""
+to reach the prover, and these do not get that far. Last line: 'N refused, M compiled'; a check that stops for another
+reason counts as neither, and ends the run."""
 import os, shutil, subprocess, sys, tempfile
 
 MISUSES = [
@@ -22,11 +23,15 @@ for what, crate, file, old, new, error in MISUSES:
         if text.count(old) != 1:
             sys.exit('%s: the text to edit stands %d times' % (what, text.count(old)))
         open(path, 'w').write(text.replace(old, new))
-        run = subprocess.run(['rt', 'dev', crate], cwd=copy, capture_output=True, text=True)
-        lines = [l for l in (run.stdout + run.stderr).splitlines() if error in l and file in l]
-        if lines:
+        at = '%s:%d:' % (file, text[:text.index(old)].count('\n') + 1)
+        run = subprocess.run(['rt', 'check'], cwd=os.path.join(copy, 'crates', crate), capture_output=True, text=True)
+        said = (run.stdout + run.stderr).splitlines()
+        lines = [l for l in said if l.startswith(at) and 'error[%s]' % error in l]
+        if run.returncode and lines:
             refused += 1
-            print('%s: %s' % (what, lines[0].split('crates/')[-1]))
+            print('%s: %s/%s' % (what, crate, lines[0]))
+        elif run.returncode:
+            sys.exit('%s: the check stopped, but not at %s with %s:\n%s' % (what, at, error, '\n'.join(said[-20:])))
         else:
             compiled += 1
             print('%s: COMPILED' % what)

@@ -1,5 +1,5 @@
 -- How long the text of a report is.
-use Rattle.std.specs.Prelude.{ℕ, ◌^◌, ◌<◌, ◌≤◌, length, Some, None, Option}
+use Rattle.std.specs.Prelude.{◌^◌, ◌<◌, ◌≤◌, length, Some, None, Option}
 use Rattle.std.specs.Int.Signed.{mag}
 use Rattle.reports.specs.declared.report.Pass.{Pass}
 use Rattle.reports.specs.declared.report.Pass.TheVariants.{Sent, Received, Drained, Default}
