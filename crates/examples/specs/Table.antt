@@ -2,8 +2,6 @@
 use Rattle.std.specs.Prelude.{◌≡◌, ℕ, List, [], ◌∷◌, ◌++◌, map, Some, None, codes, Option}
 use Prim.Native.String.{String}
 use Rattle.std.specs.List.{AllByRecursion as All}
-use Rattle.pickers.specs.declared.picker.Query.{Query}
-use Rattle.pickers.specs.declared.schedule.Pick.{Pick}
 use Rattle.pickers.specs.Meaning.{Meaning, answers}
 use Rattle.pickers.specs.Turning.{fresh_turning}
 use Rattle.pickers.specs.Schedule.{scheduled}

@@ -1,5 +1,5 @@
 -- Elements of both kinds, and what an altered handle stands for.
-use Rattle.std.specs.Prelude.{ℕ, Bool}
+use Rattle.std.specs.Prelude.{ℕ}
 use Rattle.elements.specs.declared.value.Value.{Value as Number}
 use Rattle.elements.specs.declared.handle.Handle.{Handle as Holder}
 use Rattle.elements.specs.Codes.{value_code, value_zero, handle_code, nil_handle}

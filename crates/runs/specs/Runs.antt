@@ -1,5 +1,5 @@
 -- A run: its routines, its channels, who waits and whose turn it is.
-use Rattle.std.specs.Prelude.{ℕ, ◌+◌, Bool, true, false, List, [], ◌∷◌, ◌++◌, map, length, drop, replicate, Some, None, count_by, Option, slice_index_or, slice_set}
+use Rattle.std.specs.Prelude.{ℕ, ◌+◌, Bool, true, false, List, [], ◌∷◌, ◌++◌, map, drop, replicate, Some, None, count_by, Option, slice_index_or, slice_set}
 use Rattle.std.specs.List.{slice_get}
 use Rattle.lines.specs.declared.line.Kind.{Kind}
 use Rattle.lines.specs.declared.line.Kind.TheVariants.{Value}
@@ -17,7 +17,7 @@ use Rattle.routines.specs.declared.routine.Passed.{Passed}
 use Rattle.routines.specs.declared.routine.State.{State}
 use Rattle.routines.specs.declared.routine.State.TheVariants.{Ready, Waiting, Released, Ended}
 use Rattle.routines.specs.declared.routine.Routine.{Routine}
-use Rattle.routines.specs.Registers.{in_state, at_line}
+use Rattle.routines.specs.Registers.{in_state}
 
 -- a channel: its buffer is a list, the oldest element first
 pub record Channel : Type 0 where
