@@ -1,7 +1,7 @@
 -- The table of worked examples.
 use Rattle.std.specs.Prelude.{◌≡◌, ℕ, List, [], ◌∷◌, ◌++◌, map, Some, None, codes, Option}
 use Prim.Native.String.{String}
-use Rattle.std.specs.List.{AllByRecursion as All}
+use Rattle.std.specs.List.{AllByRecursion}
 use Rattle.pickers.specs.Meaning.{Meaning, answers}
 use Rattle.pickers.specs.Turning.{fresh_turning}
 use Rattle.pickers.specs.Schedule.{scheduled}
@@ -45,4 +45,4 @@ table =
     ∷ []
 
 abbrev pub TableHolds : Type 0
-TableHolds = All Holds table
+TableHolds = AllByRecursion Holds table

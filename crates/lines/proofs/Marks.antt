@@ -1,6 +1,6 @@
 -- A line with a known mark.
 use Rattle.std.proofs.Common.{◌≡◌, ℕ, ◌-◌, ◌<◌, ◌&&◌, eqb, List, [], ◌∷◌, length, get_or, take, drop, Err, sym, refl, ◌∙◌, arith}
-use Rattle.std.specs.List.{AllByRecursion as All}
+use Rattle.std.specs.List.{AllByRecursion}
 use Rattle.std.proofs.lemmas.Bool.{and_right, cond-false, ne_eqb}
 use Rattle.words.specs.Refusals.{broken}
 use Rattle.std.proofs.lemmas.List.{take_rest}
@@ -10,12 +10,12 @@ pub at_mark : (n : ℕ) (s : List ℕ) (a b : ℕ) → get_or s 0 0 ≡ a → ge
 at_mark n s a b p q = rw (sym p, sym q, take_rest s 2)
 
 -- no mark has a 0, so a line with fewer than two bytes has none
-pub no_mark : (fs : List Format) → All (λ f. 0 < f.second) fs → (n a : ℕ) (rest : List ℕ) → chosen fs n a 0 rest ≡ Err (broken n)
+pub no_mark : (fs : List Format) → AllByRecursion (λ f. 0 < f.second) fs → (n a : ℕ) (rest : List ℕ) → chosen fs n a 0 rest ≡ Err (broken n)
 no_mark [] us n a rest = refl
 no_mark (f ∷ fs) us n a rest =
     cond-false (eqb a f.first && eqb 0 f.second) (f.reads n rest) (chosen fs n a 0 rest) (and_right (eqb a f.first) (eqb 0 f.second) (ne_eqb 0 f.second (λ e. omega (arith, us.0))))
     ∙ no_mark fs us.1 n a rest
 
-pub marked : All (λ f. 0 < f.second) formats
+pub marked : AllByRecursion (λ f. 0 < f.second) formats
 marked =
     (omega arith, (omega arith, (omega arith, (omega arith, (omega arith, (omega arith, (omega arith, (omega arith, (omega arith, (omega arith, (omega arith, (omega arith, (omega arith, (omega arith, (omega arith, (omega arith, (omega arith, (omega arith, (omega arith, (omega arith, (omega arith, (omega arith, (omega arith, tt)))))))))))))))))))))))

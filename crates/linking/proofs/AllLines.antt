@@ -1,6 +1,6 @@
 -- A sound operation, with its names put back, is linked to itself.
 use Rattle.std.proofs.Common.{◌≡◌, ℕ, ◌+◌, ◌<◌, false, ltb, List, [], ◌∷◌, map, length, Some, None, Ok, Option, refl, ap, ◌∙◌, arith}
-use Rattle.std.specs.List.{slice_get, AllByRecursion as All}
+use Rattle.std.specs.List.{slice_get, AllByRecursion}
 use Rattle.std.specs.Option.{option_map}
 use Rattle.std.proofs.lemmas.List.{length-map}
 use Rattle.std.proofs.lemmas.Bool.{or_from, le-ltb}
@@ -126,7 +126,7 @@ module _ (k : Known) (bodies : ℕ) (found : ChannelsFound k) (opened : BodiesFo
         ap (λ x. settled n x (wild (map (named k) all) (target (named k o)))) (operation_back o s)
         ∙ ap (settled n (Some o)) (ap (wild (map (named k) all)) (leads_named k o) ∙ lands_tame k all (leads o) h)
 
-    pub lines_back : (n : ℕ) (ops : List Operation) → All (SoundOperation k.channels bodies) ops → All (λ o. Lands all (leads o)) ops → link_lines k (map (named k) all) n (map (named k) ops) ≡ Ok ops
+    pub lines_back : (n : ℕ) (ops : List Operation) → AllByRecursion (SoundOperation k.channels bodies) ops → AllByRecursion (λ o. Lands all (leads o)) ops → link_lines k (map (named k) all) n (map (named k) ops) ≡ Ok ops
     unfolding link_lines
     lines_back n [] s h = refl
     lines_back n (o ∷ ops) s h =

@@ -1,6 +1,6 @@
 -- A sound program that stands for a script is what the script is linked to.
 use Rattle.std.proofs.Common.{◌≡◌, ℕ, ◌+◌, List, [], ◌∷◌, map, length, Some, Ok, sym, refl, ap, ◌∙◌, subst, arith}
-use Rattle.std.specs.List.{AllByRecursion as All}
+use Rattle.std.specs.List.{AllByRecursion}
 use Rattle.std.proofs.lemmas.List.{length-map}
 use Rattle.lines.specs.declared.line.Line.{Line}
 use Rattle.script.specs.Rules.{place}
@@ -20,7 +20,7 @@ module _ (k : Known) (bodies : ℕ) (found : ChannelsFound k) (opened : BodiesFo
   block_back : (b : Block) → SoundBlock k.channels bodies b → link_part k (named_block k b) ≡ Ok b
   block_back b s = ap (blocked b.line) (lines_back k bodies found opened b.operations (b.line + 1) b.operations s.in_range s.targets)
 
-  blocks_back : (bs : List Block) → All (SoundBlock k.channels bodies) bs → link_parts k (map (named_block k) bs) ≡ Ok bs
+  blocks_back : (bs : List Block) → AllByRecursion (SoundBlock k.channels bodies) bs → link_parts k (map (named_block k) bs) ≡ Ok bs
   unfolding link_parts
   blocks_back [] s = refl
   blocks_back (b ∷ bs) s = ap (λ r. both r (link_parts k (map (named_block k) bs))) (block_back b s.0) ∙ ap (both (Ok b)) (blocks_back bs s.1)
@@ -36,7 +36,7 @@ module _ (ls : List (Line (List ℕ))) (p : Program) (kept : Kept ls) (stands : 
 
   bodies_back : link_parts (known ls) (parts 1 ls) ≡ Ok p.bodies
   bodies_back =
-      let blocks = subst (λ (ds : List Declared). All (SoundBlock ds (length p.bodies)) p.bodies) stands.same_channels sound.blocks in
+      let blocks = subst (λ (ds : List Declared). AllByRecursion (SoundBlock ds (length p.bodies)) p.bodies) stands.same_channels sound.blocks in
       ap (link_parts (known ls)) (sym stands.same_bodies) ∙ blocks_back (known ls) (length p.bodies) (channel_found ls kept) opened p.bodies blocks
 
   main_back : place main_name (body_names ls) ≡ Some p.main

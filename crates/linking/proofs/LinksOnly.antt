@@ -1,6 +1,6 @@
 -- What is linked stands for the script, and has what running needs.
 use Rattle.std.proofs.Common.{◌≡◌, ℕ, ◌+◌, ◌≤◌, List, length, Some, sym, refl, ◌∙◌, subst, arith}
-use Rattle.std.specs.List.{AllByRecursion as All}
+use Rattle.std.specs.List.{AllByRecursion}
 use Rattle.lines.specs.declared.line.Kind.TheVariants.{Value, Handle}
 use Rattle.lines.specs.declared.line.Line.{Line}
 use Rattle.script.specs.Rules.{place}
@@ -51,7 +51,7 @@ module _ (ls : List (Line (List ℕ))) (bs : List Block) (i : ℕ) (named : plac
         placed = pairs_all (PartLinked (known ls)) (λ q. q.line + length q.lines ≤ 576) (λ b. b.line + length b.operations ≤ 576)
             (λ q b h f. omega (arith, h.0, pairs_length (LineLinked (known ls) q.lines) q.lines b.operations h.1, f)) (parts 1 ls) bs linked
             (parts_placed 576 1 ls (omega (arith, lines_few ls law)));
-        blocks = subst (λ n. All (SoundBlock (channels ls) n) bs) (sym as_many) blocks;
+        blocks = subst (λ n. AllByRecursion (SoundBlock (channels ls) n) bs) (sym as_many) blocks;
       }
 
 pub links_only : LinksOnly

@@ -1,6 +1,6 @@
 -- Two lists, element by element.
 use Rattle.std.proofs.Common.{◌≡◌, suc, List, [], ◌∷◌, map, length, refl, ap, ◌∙◌}
-use Rattle.std.specs.List.{AllByRecursion as All}
+use Rattle.std.specs.List.{AllByRecursion}
 
 -- R holds of each two that stand at one place, and the lists are equally long
 abbrev pub Pairs : {A B : Type 0} → (A → B → Type 0) → List A → List B → Type 0
@@ -23,7 +23,7 @@ module _ {A B : Type 0} (R : A → B → Type 0) where
   pairs_weaker S f (x ∷ xs) (y ∷ ys) p = (f x y p.0, pairs_weaker S f xs ys p.1)
 
   -- what holds of the firsts gives what holds of the seconds
-  pub pairs_all : (P : A → Type 0) (Q : B → Type 0) → ((x : A) (y : B) → R x y → P x → Q y) → (xs : List A) (ys : List B) → Pairs R xs ys → All P xs → All Q ys
+  pub pairs_all : (P : A → Type 0) (Q : B → Type 0) → ((x : A) (y : B) → R x y → P x → Q y) → (xs : List A) (ys : List B) → Pairs R xs ys → AllByRecursion P xs → AllByRecursion Q ys
   pairs_all P Q f [] [] p a = tt
   pairs_all P Q f [] (y ∷ ys) p a = absurd p
   pairs_all P Q f (x ∷ xs) [] p a = absurd p

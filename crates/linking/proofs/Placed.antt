@@ -1,6 +1,6 @@
 -- Where the bodies lie in the text: a script has 576 lines at most.
 use Rattle.std.proofs.Common.{◌≡◌, ℕ, ◌+◌, ◌≤◌, cond, not, List, [], ◌∷◌, length, count_by, refl, arith}
-use Rattle.std.specs.List.{prefix_len, AllByRecursion as All}
+use Rattle.std.specs.List.{prefix_len, AllByRecursion}
 use Rattle.std.proofs.lemmas.List.{length-take}
 use Rattle.std.proofs.lemmas.List.Sums.{sum_by-cons}
 use Rattle.std.proofs.lemmas.Bool.{cond_both}
@@ -14,11 +14,11 @@ use Rattle.linking.specs.Parts.{own, parts}
 own_short : (ls : List (Line (List ℕ))) → length (own ls) ≤ length ls
 own_short ls = omega (arith, length-take (prefix_len (λ l. not (is_opens (role l))) ls) ls)
 
-pub parts_placed : (m n : ℕ) (ls : List (Line (List ℕ))) → n + length ls ≤ m + 1 → All (λ p. p.line + length p.lines ≤ m) (parts n ls)
+pub parts_placed : (m n : ℕ) (ls : List (Line (List ℕ))) → n + length ls ≤ m + 1 → AllByRecursion (λ p. p.line + length p.lines ≤ m) (parts n ls)
 parts_placed m n [] h = tt
 parts_placed m n (l ∷ ls) h =
     let more = parts_placed m (n + 1) ls (omega arith) in
-    cond_both (is_opens (role l)) (record { line = n; lines = own ls } ∷ parts (n + 1) ls) (parts (n + 1) ls) (All (λ p. p.line + length p.lines ≤ m))
+    cond_both (is_opens (role l)) (record { line = n; lines = own ls } ∷ parts (n + 1) ls) (parts (n + 1) ls) (AllByRecursion (λ p. p.line + length p.lines ≤ m))
     (λ t. (omega (arith, own_short ls), more)) (λ t. more)
 
 -- each line declares a channel, opens a body or is one of a body

@@ -1,7 +1,7 @@
 -- What lines declare is the same whether names go by value or by their bytes.
 use Rattle.std.proofs.Common.{◌≡◌, ℕ, ◌+◌, ◌≤◌, cond, not, List, [], ◌∷◌, ◌++◌, map, length, take, drop, sym, refl, ap, ◌∙◌, arith}
 use Rattle.std.specs.Option.{option_to_list}
-use Rattle.std.specs.List.{prefix_len, AllByRecursion as All}
+use Rattle.std.specs.List.{prefix_len, AllByRecursion}
 use Rattle.std.proofs.lemmas.List.{append_assoc, map-append, length-append, drop_at}
 use Rattle.std.proofs.lemmas.List.Sums.{prefix_len-le-length}
 use Rattle.words.specs.declared.name.Name.{Name}
@@ -137,11 +137,11 @@ module _ (whole : List (Line (List ℕ))) where
           by Default = more
 
 -- every section lies in the lines
-pub sections_lie : (m n : ℕ) (ls : List (Line Name)) → n + length ls ≤ m + 1 → All (LiesIn m) (sections n ls)
+pub sections_lie : (m n : ℕ) (ls : List (Line Name)) → n + length ls ≤ m + 1 → AllByRecursion (LiesIn m) (sections n ls)
 sections_lie m n [] h = tt
 sections_lie m n (l ∷ ls) h = by (role l) (sections_lie m (n + 1) ls (omega arith))
   where
-    by : (r : Role Name) → All (LiesIn m) (sections (n + 1) ls) → All (LiesIn m) (section r n ls ++ sections (n + 1) ls)
+    by : (r : Role Name) → AllByRecursion (LiesIn m) (sections (n + 1) ls) → AllByRecursion (LiesIn m) (section r n ls ++ sections (n + 1) ls)
     by (Declares k x c) a = a
     by (Opens x) a = (omega (arith, prefix_len-le-length (λ l. not (is_opens (role l))) ls), a)
     by (Selects c) a = a

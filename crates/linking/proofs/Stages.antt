@@ -1,6 +1,6 @@
 -- One line, or one body, further in linking.
 use Rattle.std.proofs.Common.{◌≡◌, ℕ, ◌+◌, ◌-◌, ◌<◌, ◌≤◌, List, [], ◌∷◌, ◌++◌, map, length, get_or, take, drop, Ok, Err, Option, Result, sym, refl, ap, ◌∙◌, subst, arith}
-use Rattle.std.specs.List.{AllByRecursion as All}
+use Rattle.std.specs.List.{AllByRecursion}
 use Rattle.std.proofs.lemmas.List.{append_assoc, append-nil, at_drop_more, at_drop_all, drop-append-le, take-append-le, length-drop, drop_at, take_all, take-map, drop-map, length-append, map-append}
 use Rattle.std.proofs.ByRecursion.{All-push}
 use Rattle.words.specs.declared.name.Name.{Name}
@@ -63,7 +63,7 @@ abbrev pub EndsBy : ℕ → Body → Type 0
 EndsBy n b = b.start + b.count ≤ n
 
 -- bodies keep their operations when more come behind
-pub blocks_kept : (ops more : List Operation) (bs : List Body) → All (EndsBy (length ops)) bs → map (block (ops ++ more)) bs ≡ map (block ops) bs
+pub blocks_kept : (ops more : List Operation) (bs : List Body) → AllByRecursion (EndsBy (length ops)) bs → map (block (ops ++ more)) bs ≡ map (block ops) bs
 blocks_kept ops more [] a = refl
 blocks_kept ops more (b ∷ bs) a =
     let same : take b.count (drop b.start (ops ++ more)) ≡ take b.count (drop b.start ops) =
@@ -78,7 +78,7 @@ block_last ops more b s n =
     ap (take b.count) (drop_at ops more b.start (sym s)) ∙ take_all b.count more (omega (arith, n)) in
     ap (λ o. record { line = b.line; operations = o }) same
 
-pub ends_later : (n m : ℕ) (bs : List Body) → n ≤ m → All (EndsBy n) bs → All (EndsBy m) bs
+pub ends_later : (n m : ℕ) (bs : List Body) → n ≤ m → AllByRecursion (EndsBy n) bs → AllByRecursion (EndsBy m) bs
 ends_later n m [] h a = tt
 ends_later n m (b ∷ bs) h a = (omega (arith, a.0), ends_later n m bs h a.1)
 
@@ -122,7 +122,7 @@ bodies_stops k ls ss j d done before after Memory h i e = tt
 -- one body more
 module _ (k : Known) (ls : List (Line (List ℕ))) (ss : List Section) (j : ℕ) (d : Section) (ops : List Operation) (bs : List Body) (more : List Operation) (b : Body) where
   abbrev pub Stage : ℕ → List Operation → List Body → Type 0
-  Stage i os cs = All (EndsBy (length os)) cs × (link_parts k (map (part_of ls) ss) ≡ behind (map (block os) cs) (others k ls ss i))
+  Stage i os cs = AllByRecursion (EndsBy (length os)) cs × (link_parts k (map (part_of ls) ss) ≡ behind (map (block os) cs) (others k ls ss i))
 
   stage_more : j < length ss → Stage j ops bs → b.start ≡ length ops → b.count ≡ length more → link_part k (part_of ls (get_or ss j d)) ≡ Ok (record { line = b.line; operations = more }) → Stage (j + 1) (ops ++ more) (bs ++ (b ∷ []))
   stage_more h s st n e =

@@ -1,7 +1,7 @@
 -- As many channels and bodies are linked as are declared, with as many cells.
 use Rattle.std.proofs.Common.{◌≡◌, ℕ, ◌+◌, ◌≤◌, Bool, true, false, cond, List, [], ◌∷◌, length, sum_by, count_by, sym, refl, ◌∙◌, arith}
 use Rattle.std.specs.Option.{option_to_list}
-use Rattle.std.specs.List.{AllByRecursion as All}
+use Rattle.std.specs.List.{AllByRecursion}
 use Rattle.std.proofs.lemmas.List.{length-append}
 use Rattle.std.proofs.ByRecursion.{All-append}
 use Rattle.std.proofs.lemmas.List.Sums.{sum_by-cons, sum_by-append}
@@ -33,7 +33,7 @@ opened_one Acts = refl
 opened_one Case = refl
 opened_one Default = refl
 
-small_one : (r : Role (List ℕ)) → capacity r ≤ 64 → All (λ d. d.capacity ≤ 64) (declaration r)
+small_one : (r : Role (List ℕ)) → capacity r ≤ 64 → AllByRecursion (λ d. d.capacity ≤ 64) (declaration r)
 small_one (Declares k x n) h = (h, tt)
 small_one (Opens x) h = tt
 small_one (Selects n) h = tt
@@ -70,7 +70,7 @@ parts_counted n (l ∷ ls) = go (is_opens (role l)) (parts_counted (n + 1) ls) �
     go true more = omega arith
     go false more = omega arith
 
-pub channels_small : (ls : List (Line (List ℕ))) → All (λ r. capacity r ≤ 64) (roles ls) → All (λ d. d.capacity ≤ 64) (channels ls)
+pub channels_small : (ls : List (Line (List ℕ))) → AllByRecursion (λ r. capacity r ≤ 64) (roles ls) → AllByRecursion (λ d. d.capacity ≤ 64) (channels ls)
 channels_small [] a = tt
 channels_small (l ∷ ls) a = All-append (λ d. d.capacity ≤ 64) (declaration (role l)) (channels ls) (small_one (role l) a.0) (channels_small ls a.1)
 

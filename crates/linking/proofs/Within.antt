@@ -1,6 +1,6 @@
 -- What holds of all lines of a script holds in each of its bodies.
 use Rattle.std.proofs.Common.{◌≡◌, ℕ, suc, ◌+◌, ◌≤◌, Bool, true, false, cond, not, List, [], ◌∷◌, take, sym, refl, ap, ◌∙◌, subst, arith}
-use Rattle.std.specs.List.{prefix_len, AllByRecursion as All}
+use Rattle.std.specs.List.{prefix_len, AllByRecursion}
 use Rattle.std.proofs.ByRecursion.{All-take}
 use Rattle.std.proofs.lemmas.Bool.{cond_both, false≢true}
 use Rattle.lines.specs.declared.line.Line.{Line}
@@ -58,15 +58,15 @@ Fit l = Good l × (asks (role l) ≤ 8)
 
 -- a body's lines: they begin with no case, and just the cases follow that are asked for
 pub record Well (body : List (Line (List ℕ))) : Type 0 where
-  pub fit : All Fit body
+  pub fit : AllByRecursion Fit body
   pub begins : prefix_len is_case (roles body) ≡ 0
   pub follows : Everywhere Followed (roles body)
 
-pub parts_well : (n : ℕ) (ls : List (Line (List ℕ))) → All Fit ls → Everywhere Followed (roles ls) → All (λ p. Well p.lines) (parts n ls)
+pub parts_well : (n : ℕ) (ls : List (Line (List ℕ))) → AllByRecursion Fit ls → Everywhere Followed (roles ls) → AllByRecursion (λ p. Well p.lines) (parts n ls)
 parts_well n [] a h = tt
 parts_well n (l ∷ ls) a h =
     let more = parts_well (n + 1) ls a.1 h.1 in
-    cond_both (is_opens (role l)) (record { line = n; lines = own ls } ∷ parts (n + 1) ls) (parts (n + 1) ls) (All (λ p. Well p.lines))
+    cond_both (is_opens (role l)) (record { line = n; lines = own ls } ∷ parts (n + 1) ls) (parts (n + 1) ls) (AllByRecursion (λ p. Well p.lines))
     (λ t. (
       record {
         fit = All-take Fit _ ls a.1;
@@ -78,6 +78,6 @@ parts_well n (l ∷ ls) a h =
     (λ t. more)
 
 -- the rules of the script give this of every line
-pub all_fit : (ls : List (Line (List ℕ))) → All Good ls → All (λ r. asks r ≤ 8) (roles ls) → All Fit ls
+pub all_fit : (ls : List (Line (List ℕ))) → AllByRecursion Good ls → AllByRecursion (λ r. asks r ≤ 8) (roles ls) → AllByRecursion Fit ls
 all_fit [] g a = tt
 all_fit (l ∷ ls) g a = ((g.0, a.0), all_fit ls g.1 a.1)

@@ -1,6 +1,6 @@
 -- What running needs of a program.
 use Rattle.std.specs.Prelude.{◌≡◌, ℕ, ◌+◌, ◌<◌, ◌≤◌, Bool, true, false, List, [], ◌∷◌, length, Some, None, sum_by, Option}
-use Rattle.std.specs.List.{slice_get, prefix_len, AllByRecursion as All}
+use Rattle.std.specs.List.{slice_get, prefix_len, AllByRecursion}
 use Rattle.lines.specs.declared.line.Kind.{Kind}
 use Rattle.lines.specs.declared.line.Kind.TheVariants.{Value, Handle}
 use Rattle.lines.specs.declared.line.Operand.{Operand}
@@ -120,8 +120,8 @@ abbrev pub Followed : Operation → List Operation → Type 0
 Followed o rest = is_case o ≡ false → prefix_len is_case rest ≡ asks o
 
 pub record SoundBlock (ds : List Declared) (bodies : ℕ) (b : Block) : Type 0 where
-  pub in_range : All (SoundOperation ds bodies) b.operations
-  pub targets : All (λ o. Lands b.operations (leads o)) b.operations
+  pub in_range : AllByRecursion (SoundOperation ds bodies) b.operations
+  pub targets : AllByRecursion (λ o. Lands b.operations (leads o)) b.operations
   pub begins : prefix_len is_case b.operations ≡ 0
   pub selects : Everywhere Followed b.operations
 
@@ -133,10 +133,10 @@ pub record Sound (p : Program) : Type 0 where
   -- 32 channels and bodies; capacities to 64, and together to 512 for values and to 128 for handles
   pub few_channels : length p.channels ≤ 32
   pub few_bodies : length p.bodies ≤ 32
-  pub small_channels : All (λ d. d.capacity ≤ 64) p.channels
+  pub small_channels : AllByRecursion (λ d. d.capacity ≤ 64) p.channels
   pub value_cells : sum_by (cells_for Value) p.channels ≤ 512
   pub handle_cells : sum_by (cells_for Handle) p.channels ≤ 128
   pub main_there : p.main < length p.bodies
   -- a script has 576 lines at most
-  pub placed : All (λ b. b.line + length b.operations ≤ 576) p.bodies
-  pub blocks : All (SoundBlock p.channels (length p.bodies)) p.bodies
+  pub placed : AllByRecursion (λ b. b.line + length b.operations ≤ 576) p.bodies
+  pub blocks : AllByRecursion (SoundBlock p.channels (length p.bodies)) p.bodies

@@ -4,7 +4,7 @@ ghost use Rattle.lines.specs.Lines.{line_of};
 ghost use Rattle.linking.specs.Links.{link_line, link_lines, link_part, link_parts};
 ghost use Rattle.linking.specs.Seen.{known_of, part_of};
 ghost use Rattle.linking.specs.Stages.{LinksBehind, LinksBody, LinksBodies, LiesIn};
-ghost use Rattle.std.specs.List.{AllByRecursion as All};
+ghost use Rattle.std.specs.List.{AllByRecursion};
 
 use crate::declared::{Body, Code, Section};
 use crate::operation::Operation;
@@ -81,7 +81,7 @@ impl Symbols {
         sections: &[Section],
         heap: Global,
     ) -> Result<Code, Stop>
-        requires { All (LiesIn (length lines.now)) sections.now }
+        requires { AllByRecursion (LiesIn (length lines.now)) sections.now }
         ensures { LinksBodies (link_parts (known_of self.now) (map (part_of (map line_of lines.now)) sections.now)) result }
     {
         let mut code = Code {

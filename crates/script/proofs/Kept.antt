@@ -1,6 +1,6 @@
 -- A script that is read keeps the rules.
 use Rattle.std.proofs.Common.{◌≡◌, ℕ, suc, ◌+◌, Bool, eqb, ltb, List, [], ◌∷◌, length, take, Some, None, Ok, Err, Option, Result, sym, refl, ap, ◌∙◌, subst, ⊎_elim, arith}
-use Rattle.std.specs.List.{AllByRecursion as All}
+use Rattle.std.specs.List.{AllByRecursion}
 use Rattle.std.proofs.lemmas.Bool.{ltb-false}
 use Rattle.words.specs.declared.refusal.Refusal.{Refusal}
 use Rattle.words.specs.declared.refusal.Refusal.TheVariants.{Overlong}
@@ -37,7 +37,7 @@ judged_back n s last (Ok l) k ls e = let a = admitted_back (judge s (role l) las
 
 -- what is read of the pieces ps, after lines that left s
 record Taken (s : Standing) (ps : List (List ℕ)) (ls : List (Line (List ℕ))) : Type 0 where
-  good : All Good ls
+  good : AllByRecursion Good ls
   admitted : Admitted s ls
   as_many : none_left ps ≡ none_left ls
 

@@ -1,6 +1,6 @@
 -- What every script that was read keeps.
 use Rattle.std.specs.Prelude.{◌≡◌, ℕ, ◌≤◌, List, [], ◌∷◌, length, None}
-use Rattle.std.specs.List.{AllByRecursion as All}
+use Rattle.std.specs.List.{AllByRecursion}
 use Rattle.lines.specs.declared.line.Line.{Line}
 use Rattle.lines.specs.Roles.{role}
 use Rattle.lines.specs.Shows.{Good}
@@ -14,6 +14,6 @@ Admitted s (l ∷ ls) = (judge s (role l) (none_left ls) ≡ None) × Admitted (
 
 -- a script that keeps the rules
 pub record Kept (ls : List (Line (List ℕ))) : Type 0 where
-  pub good : All Good ls
+  pub good : AllByRecursion Good ls
   pub admitted : Admitted fresh ls
   pub short : length (show ls) ≤ 32768

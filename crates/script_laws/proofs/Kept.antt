@@ -1,6 +1,6 @@
 -- A script that keeps the rules is read, and one that is read keeps them.
 use Rattle.std.proofs.Common.{◌≡◌, ℕ, ◌+◌, eqb, ltb, List, [], ◌∷◌, ◌++◌, length, None, Ok, Result, refl, ap, ◌∙◌}
-use Rattle.std.specs.List.{AllByRecursion as All}
+use Rattle.std.specs.List.{AllByRecursion}
 use Rattle.std.proofs.lemmas.Bool.{cond-false, le-ltb, ne_eqb}
 use Rattle.words.specs.declared.refusal.Fault.{Fault}
 use Rattle.words.proofs.Spans.{Free}
@@ -28,12 +28,12 @@ unfolding show
 cut_show l ls g = cut (show_line l) (show ls) (no_end l g)
 
 -- a piece is left where a line is left
-none_shown : (ls : List (Line (List ℕ))) → All Good ls → none_left (pieces (show ls)) ≡ none_left ls
+none_shown : (ls : List (Line (List ℕ))) → AllByRecursion Good ls → none_left (pieces (show ls)) ≡ none_left ls
 unfolding pieces show
 none_shown [] g = refl
 none_shown (l ∷ ls) g = ap none_left (cut_show l ls g.0)
 
-read_shown : (n : ℕ) (s : Standing) (ls : List (Line (List ℕ))) → All Good ls → Admitted s ls → read_on n s (pieces (show ls)) ≡ Ok ls
+read_shown : (n : ℕ) (s : Standing) (ls : List (Line (List ℕ))) → AllByRecursion Good ls → Admitted s ls → read_on n s (pieces (show ls)) ≡ Ok ls
 unfolding pieces read_on show
 read_shown n s [] g a = refl
 read_shown n s (l ∷ ls) g a =

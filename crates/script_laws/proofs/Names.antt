@@ -1,7 +1,7 @@
 -- Names that stand once.
 use Rattle.std.proofs.Common.{◌≡◌, ℕ, Bool, true, false, List, [], ◌∷◌, ◌++◌, is_some, Some, None, Option, sym, refl, ap, ◌∙◌, subst}
 use Rattle.std.specs.Option.{option_to_list}
-use Rattle.std.specs.List.{flat_map, AllByRecursion as All}
+use Rattle.std.specs.List.{flat_map, AllByRecursion}
 use Rattle.std.specs.Str.{bytes_eq}
 use Rattle.std.proofs.ByRecursion.{All-push}
 use Rattle.std.proofs.lemmas.Slice.Eq.{bytes_eq-Decides}
@@ -14,7 +14,7 @@ use Rattle.script_laws.specs.Lawful.{channel_name, body_name, Distinct}
 
 -- x stands nowhere in xs
 abbrev pub Absent : List ℕ → List (List ℕ) → Type 0
-Absent x xs = All (λ y. y ≡ x → ⊥) xs
+Absent x xs = AllByRecursion (λ y. y ≡ x → ⊥) xs
 
 some_further : (o : Option ℕ) → is_some (further o) ≡ is_some o
 some_further None = refl
@@ -43,7 +43,7 @@ distinct_push : (xs : List (List ℕ)) (x : List ℕ) → Absent x xs → Distin
 distinct_push [] x a d = (tt, tt)
 distinct_push (y ∷ ys) x a d = (All-push (λ z. y ≡ z → ⊥) ys x d.0 a.0, distinct_push ys x a.1 d.1)
 
-all_at : {X : Type 0} (P : X → Type 0) (xs : List X) (x : X) (ys : List X) → All P (xs ++ (x ∷ ys)) → P x
+all_at : {X : Type 0} (P : X → Type 0) (xs : List X) (x : X) (ys : List X) → AllByRecursion P (xs ++ (x ∷ ys)) → P x
 all_at P [] x ys h = h.0
 all_at P (y ∷ xs) x ys h = all_at P xs x ys h.1
 

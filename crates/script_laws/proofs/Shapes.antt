@@ -1,6 +1,6 @@
 -- How the lines to come stand, after those before.
 use Rattle.std.proofs.Common.{◌≡◌, ℕ, zero, suc, ◌+◌, ◌-◌, ◌*◌, ◌<◌, ◌≤◌, Bool, true, false, cond, List, [], ◌∷◌, take, count_by, sym, refl, ap, ◌∙◌, ⊎_elim, arith}
-use Rattle.std.specs.List.{prefix_len, AllByRecursion as All}
+use Rattle.std.specs.List.{prefix_len, AllByRecursion}
 use Rattle.std.proofs.lemmas.List.Sums.{sum_by-cons}
 use Rattle.std.proofs.lemmas.Bool.{true≢false, false≢true, cases_lt, or_parts, or_from, ltb-false, le-ltb, eqb-false, ne_eqb}
 use Rattle.lines.specs.declared.line.Kind.{Kind}
@@ -16,8 +16,8 @@ flag b = cond b 1 0
 
 -- after b bodies, with cases still due, of which the default came or not
 pub record Shape (b due : ℕ) (came : Bool) (rs : List (Role (List ℕ))) : Type 0 where
-  pub outside : b ≡ 0 → All (λ r. is_declares r ≡ true) (heading rs) × All (λ r. is_declares r ≡ false) (bodies rs)
-  pub inside : 0 < b → All (λ r. is_declares r ≡ false) rs
+  pub outside : b ≡ 0 → AllByRecursion (λ r. is_declares r ≡ true) (heading rs) × AllByRecursion (λ r. is_declares r ≡ false) (bodies rs)
+  pub inside : 0 < b → AllByRecursion (λ r. is_declares r ≡ false) rs
   pub front : prefix_len is_case rs ≡ due
   pub cases : Everywhere Followed rs
   pub once : flag came + count_by is_default (take due rs) ≤ 1

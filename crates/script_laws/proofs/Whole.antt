@@ -1,7 +1,7 @@
 -- The rules line by line, and of the whole script.
 use Rattle.std.proofs.Common.{◌≡◌, ℕ, ◌≤◌, Bool, true, false, cond, ◌&&◌, ◌||◌, ltb, List, [], ◌∷◌, ◌++◌, Some, None, Option, sym, refl, ◌∙◌, subst, arith, rules}
 use Rattle.std.specs.Option.{option_to_list}
-use Rattle.std.specs.List.{flat_map, prefix_len, AllByRecursion as All}
+use Rattle.std.specs.List.{flat_map, prefix_len, AllByRecursion}
 use Rattle.std.proofs.lemmas.List.{append_assoc, append-nil}
 use Rattle.std.proofs.lemmas.Bool.{or_parts, or_from, ltb-false, le-ltb, cond-false, false≢true}
 use Rattle.words.specs.declared.refusal.Refusal.{Refusal}
@@ -58,8 +58,8 @@ record Ahead (s : Standing) (rs : List (Role (List ℕ))) : Type 0 where
   stands : Stands s.tally rs
   channels : Distinct (s.channels ++ flat_map channel_name rs)
   bodies : Distinct (s.bodies ++ flat_map body_name rs)
-  cells : All (λ r. capacity r ≤ 64) rs
-  selects : All (λ r. asks r ≤ 8) rs
+  cells : AllByRecursion (λ r. capacity r ≤ 64) rs
+  selects : AllByRecursion (λ r. asks r ≤ 8) rs
 
 held_on : (s : Standing) (r : Role (List ℕ)) (last : Bool) → Held s → Passed s r last → Held (standing s r)
 held_on s r last h p =
@@ -171,7 +171,7 @@ admitted_ahead s (l ∷ ls) a =
     (unjudged s (role l) (none_left ls) (passed_ahead s l ls a), admitted_ahead (standing s (role l)) ls (ahead_back s (role l) (roles ls) a))
 
 -- the first line is no case line
-first : (rs : List (Role (List ℕ))) → All (λ r. is_declares r ≡ true) (heading rs) → prefix_len is_case rs ≡ 0
+first : (rs : List (Role (List ℕ))) → AllByRecursion (λ r. is_declares r ≡ true) (heading rs) → prefix_len is_case rs ≡ 0
 first [] h = refl
 first (Declares k x n ∷ rs) h = refl
 first (Opens x ∷ rs) h = refl

@@ -1,6 +1,6 @@
 -- When a text is read.
 use Rattle.std.specs.Prelude.{◌≡◌, ℕ, ◌≤◌, List, length, Ok, Result}
-use Rattle.std.specs.List.{AllByRecursion as All}
+use Rattle.std.specs.List.{AllByRecursion}
 use Rattle.words.specs.declared.refusal.Fault.{Fault}
 use Rattle.lines.specs.declared.line.Line.{Line}
 use Rattle.lines.specs.Shows.{Good}
@@ -10,7 +10,7 @@ use Rattle.script_laws.specs.Lawful.{Lawful}
 -- ls keeps every rule, and t is its listing
 pub record Lists (t : List ℕ) (ls : List (Line (List ℕ))) : Type 0 where
   pub lawful : Lawful ls
-  pub good : All Good ls
+  pub good : AllByRecursion Good ls
   pub short : length (show ls) ≤ 32768
   pub listed : show ls ≡ t
 

@@ -1,6 +1,6 @@
 -- The rules of a whole script, by how its lines stand in it.
 use Rattle.std.specs.Prelude.{◌≡◌, ℕ, ◌≤◌, Bool, true, false, cond, not, ◌||◌, List, [], ◌∷◌, map, length, take, Ok, sum_by, count_by, ◌≢◌}
-use Rattle.std.specs.List.{prefix_len, flat_map, AllByRecursion as All}
+use Rattle.std.specs.List.{prefix_len, flat_map, AllByRecursion}
 use Rattle.lines.specs.declared.line.Line.{Line}
 use Rattle.lines.specs.declared.line.Kind.{Kind}
 use Rattle.lines.specs.declared.line.Kind.TheVariants.{Value, Handle}
@@ -127,7 +127,7 @@ Once r rest = count_by is_default (take (asks r) rest) ≤ 1
 -- no two are equal
 abbrev pub Distinct : {X : Type 0} → List X → Type 0
 Distinct [] = Unit {0}
-Distinct (x ∷ xs) = All (λ y. x ≢ y) xs × Distinct xs
+Distinct (x ∷ xs) = AllByRecursion (λ y. x ≢ y) xs × Distinct xs
 
 abbrev pub roles : List (Line (List ℕ)) → List (Role (List ℕ))
 roles ls = map role ls
@@ -135,21 +135,21 @@ roles ls = map role ls
 -- ---- the rules
 pub record Lawful (ls : List (Line (List ℕ))) : Type 0 where
   -- before the first body stand only declarations, and after it none
-  pub channels_first : All (λ r. is_declares r ≡ true) (heading (roles ls))
-  pub bodies_last : All (λ r. is_declares r ≡ false) (bodies (roles ls))
+  pub channels_first : AllByRecursion (λ r. is_declares r ≡ true) (heading (roles ls))
+  pub bodies_last : AllByRecursion (λ r. is_declares r ≡ false) (bodies (roles ls))
   -- 32 channels, 32 bodies, 512 lines of bodies
   pub few_channels : count_by is_declares (roles ls) ≤ 32
   pub few_bodies : count_by is_opens (roles ls) ≤ 32
   pub few_lines : count_by is_body (roles ls) ≤ 512
   -- capacities to 64, and together to 512 for values and to 128 for handles
-  pub small_channels : All (λ r. capacity r ≤ 64) (roles ls)
+  pub small_channels : AllByRecursion (λ r. capacity r ≤ 64) (roles ls)
   pub value_cells : sum_by (capacity_of Value) (roles ls) ≤ 512
   pub handle_cells : sum_by (capacity_of Handle) (roles ls) ≤ 128
   -- no two channels have one name, and no two bodies
   pub channels_differ : Distinct (flat_map channel_name (roles ls))
   pub bodies_differ : Distinct (flat_map body_name (roles ls))
   -- a select asks for 8 cases at most; they follow it, and stand nowhere else; one is the default at most
-  pub small_selects : All (λ r. asks r ≤ 8) (roles ls)
+  pub small_selects : AllByRecursion (λ r. asks r ≤ 8) (roles ls)
   pub cases_follow : Everywhere Followed (roles ls)
   pub one_default : Everywhere Once (roles ls)
 
@@ -159,4 +159,4 @@ AcceptsLawful = (t : List ℕ) (ls : List (Line (List ℕ))) → read_script t �
 
 -- and one that keeps them, of good lines and with a short listing, is one that is read
 abbrev pub LawfulKept : Type 0
-LawfulKept = (ls : List (Line (List ℕ))) → Lawful ls → All Good ls → length (show ls) ≤ 32768 → Kept ls
+LawfulKept = (ls : List (Line (List ℕ))) → Lawful ls → AllByRecursion Good ls → length (show ls) ≤ 32768 → Kept ls

@@ -1,6 +1,6 @@
 -- A line and its text, both ways.
 use Rattle.std.proofs.Common.{◌≡◌, ℕ, ◌<◌, Bool, true, ◌&&◌, eqb, ltb, List, [], ◌∷◌, ◌++◌, get_or, drop, ℤ, pos, negsuc, Some, None, Ok, Err, Option, Result, sym, refl, ap, ◌∙◌, subst, ⊎_elim, arith}
-use Rattle.std.specs.List.{AllByRecursion as All}
+use Rattle.std.specs.List.{AllByRecursion}
 use Rattle.std.proofs.lemmas.Bool.{and_parts, eqb-true, ltb-true}
 use Rattle.words.specs.declared.refusal.Fault.{Fault}
 use Rattle.words.specs.Refusals.{broken}
@@ -257,7 +257,7 @@ reads_back n (Routine a) h = whole_there _ _ _ names (λ p. Routine p) n a h
 abbrev Undoes : Format → Type 0
 Undoes f = (n : ℕ) (rest : List ℕ) (l : Line (List ℕ)) → f.reads n rest ≡ Ok l → Good l × (show_line l ≡ f.first ∷ (f.second ∷ rest)) × Free 10 rest
 
-undo : All Undoes formats
+undo : AllByRecursion Undoes formats
 undo = (
   whole_back _ _ _ codec_vn (λ p. Set p.0 p.1) 83 86 (λ x g. g) (λ x. refl),
   (
@@ -335,7 +335,7 @@ clear [] = true
 clear (f ∷ fs) = (ltb 10 f.first && ltb 10 f.second) && clear fs
 
 module _ (n a b : ℕ) (rest : List ℕ) (l : Line (List ℕ)) where
-  chosen_back : (fs : List Format) → All Undoes fs → clear fs ≡ true → chosen fs n a b rest ≡ Ok l → Good l × (show_line l ≡ a ∷ (b ∷ rest)) × Free 10 (a ∷ (b ∷ rest))
+  chosen_back : (fs : List Format) → AllByRecursion Undoes fs → clear fs ≡ true → chosen fs n a b rest ≡ Ok l → Good l × (show_line l ≡ a ∷ (b ∷ rest)) × Free 10 (a ∷ (b ∷ rest))
   chosen_back [] us c e = absurd (err_ok e)
   chosen_back (f ∷ fs) us c e =
       let high = and_parts (ltb 10 f.first && ltb 10 f.second) (clear fs) c in

@@ -1,6 +1,6 @@
 -- Reading a line and listing one undo each other.
 use Rattle.std.specs.Prelude.{◌≡◌, ℕ, List, Ok, ◌≢◌}
-use Rattle.std.specs.List.{AllByRecursion as All}
+use Rattle.std.specs.List.{AllByRecursion}
 use Rattle.lines.specs.declared.line.Line.{Line}
 use Rattle.lines.specs.Lines.{read_line}
 use Rattle.lines.specs.Shows.{show_line, Good}
@@ -15,4 +15,4 @@ ListsBack = (n : ℕ) (t : List ℕ) (l : Line (List ℕ)) → read_line n t ≡
 
 -- a line that is listed does not break off
 abbrev pub NoEnd : Type 0
-NoEnd = (l : Line (List ℕ)) → Good l → All (λ c. c ≢ 10) (show_line l)
+NoEnd = (l : Line (List ℕ)) → Good l → AllByRecursion (λ c. c ≢ 10) (show_line l)

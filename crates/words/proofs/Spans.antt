@@ -1,7 +1,7 @@
 -- Where the first separator stands.
 use Rattle.std.proofs.Common.{◌≡◌, ℕ, zero, suc, ◌+◌, ◌<◌, ◌≤◌, true, cond, eqb, List, [], ◌∷◌, ◌++◌, length, get_or, take, drop, replicate, sym, refl, ap, ◌∙◌, arith}
 use Rattle.std.specs.Char.{is_ascii_lowercase}
-use Rattle.std.specs.List.{AllByRecursion as All}
+use Rattle.std.specs.List.{AllByRecursion}
 use Rattle.std.proofs.lemmas.List.{at_drop_more, at_drop_all, take_at}
 use Rattle.std.proofs.lemmas.Bool.{and_parts, cond-true, cond-false, eq-eqb, ne_eqb}
 use Rattle.std.proofs.lemmas.Bool.Decides.{nat_tests}
@@ -26,7 +26,7 @@ module _ (p : ℕ) where
 
   -- the separator does not stand in it
   abbrev pub Free : List ℕ → Type 0
-  Free t = All (λ c. c ≡ p → ⊥) t
+  Free t = AllByRecursion (λ c. c ≡ p → ⊥) t
 
   -- the text ends here, or a separator stands here
   abbrev pub Stops : List ℕ → Type 0

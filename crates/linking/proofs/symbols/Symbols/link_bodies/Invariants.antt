@@ -1,5 +1,5 @@
 use Rattle.std.proofs.Common.{◌≡◌, map, length, drop, vec_items}
-use Rattle.std.specs.List.{AllByRecursion as All}
+use Rattle.std.specs.List.{AllByRecursion}
 use Rattle.lines.specs.Lines.{line_of}
 use Rattle.linking.specs.Programs.{block}
 use Rattle.linking.specs.Links.{link_parts}
@@ -9,5 +9,5 @@ use Rattle.linking.proofs.symbols.Symbols.link_bodies.Given as goal
 
 abbrev pub invariant-loop-section : goal.invariant-loop-section
 invariant-loop-section l =
-    All (EndsBy (length (vec_items l.code.operations))) (vec_items l.code.bodies)
+    AllByRecursion (EndsBy (length (vec_items l.code.operations))) (vec_items l.code.bodies)
     × (link_parts (known_of l.self) (map (part_of (map line_of l.lines)) l.sections) ≡ behind (map (block (vec_items l.code.operations)) (vec_items l.code.bodies)) (link_parts (known_of l.self) (map (part_of (map line_of l.lines)) (drop l.section-index l.sections))))

@@ -1,5 +1,5 @@
 use Rattle.std.proofs.Common.{◌≡◌, List, [], map, length, Some, None, vec_items, sym, refl, ap, ◌∙◌, subst, arith}
-use Rattle.std.specs.List.{AllByRecursion as All}
+use Rattle.std.specs.List.{AllByRecursion}
 use Rattle.std.proofs.lemmas.Result.{err_from_is_err_and}
 use Rattle.words.specs.declared.name.Name.{Name}
 use Rattle.words.specs.Spelled.{spelled}
@@ -22,7 +22,7 @@ surveyed_parts ls found e = ap (map (part_of (map line_of ls))) e ∙ parts_spel
 pub link_bodies-requires : goal.link_bodies-requires
 link_bodies-requires c =
     let ls = c.args.lines.now in
-    let P : List Section → Type 0 = All (LiesIn (length ls)) in
+    let P : List Section → Type 0 = AllByRecursion (LiesIn (length ls)) in
     subst P (sym (c.deref.ensures.value ∙ c.in_ok-symbols.ensures.bodies)) (sections_lie (length ls) 1 ls (omega arith))
 
 pub returns-in_err-code : goal.returns-in_err-code
