@@ -1,6 +1,6 @@
 // Reading a word from the front of a line.
 ghost use Rattle.std.specs.Prelude.{◌≡◌, take, drop};
-ghost use Rattle.words.specs.Words.{span, digits_within, numeral_within, negated, posited, number_of as number_of, word_of, said_word, said, read_word, unlent};
+ghost use Rattle.words.specs.Words.{span, digits_within, numeral_within, negated, posited, number_of, word_of, said_word, said, read_word, unlent};
 
 use crate::refusal::Fault;
 use crate::spelling::is_name;
