@@ -18,3 +18,6 @@ pub use linked::{Linked, Unlinked};
 pub use linking::link;
 pub use operation::{Exchange, Operation};
 pub use stop::Stop;
+
+#[cfg(test)]
+mod tests;
