@@ -1,12 +1,11 @@
 -- What is accepted is received in order.
-use Rattle.std.proofs.Common.{◌≡◌, ℕ, Bool, true, false, cond, not, ◌&&◌, ◌||◌, eqb, ltb, List, [], ◌∷◌, ◌++◌, length, drop, Some, None, Option, sym, refl, ap, ◌∙◌, arith}
+use Rattle.std.proofs.Common.{◌≡◌, ℕ, Bool, true, false, cond, not, ◌&&◌, ◌||◌, eqb, ltb, List, [], ◌∷◌, ◌++◌, length, drop, Some, None, Option, Ok, Err, sym, refl, ap, ◌∙◌, arith}
 use Rattle.std.proofs.lemmas.List.{append_assoc, append-nil, nil_from_length}
 use Rattle.std.proofs.lemmas.Bool.{and_parts, eqb-true}
 use Rattle.waiting.specs.declared.wish.Entry.{Entry}
 use Rattle.waiting.specs.Queues.{first}
-use Rattle.channels.specs.declared.channel.Sent.TheVariants.{ShortBank, Closed}
-use Rattle.channels.specs.declared.channel.Received.{Received}
-use Rattle.channels.specs.declared.channel.Received.TheVariants.{ShortBank as NoBank, Empty, Drained, Taken}
+use Rattle.channels.specs.declared.channel.SendError.TheVariants.{ShortBank, Closed}
+use Rattle.channels.specs.declared.channel.ReceiveError.TheVariants.{ShortBank as NoBank}
 use Rattle.channels.specs.Seen.{Told}
 use Rattle.channels.specs.Rules.{sent, sent_to, after_sent, offered}
 use Rattle.channels.specs.Receives.{got, got_in, got_from, after_got}
@@ -15,53 +14,34 @@ use Rattle.channels.specs.Orders.{Deed, sends, receives, joins, leaves, closes, 
 use Rattle.channels.proofs.Settled.{sends_settle, receives_settle, leaving_settles, joining_settles}
 
 first_some : {A : Type 0} (xs : List A) (x : A) → first xs ≡ Some x → some xs ≡ true
-first_some [] x h = let z : ◌≡◌ {A = ℕ} 0 1 = cc in absurd (omega arith)
+first_some [] x h = cc
 first_some (y ∷ xs) x h = refl
 
 module _ {E X : Type 0} (c : Told E X) (h : Settled c) where
   sent_in_order : (e : E) → c.buffer ++ accepted_sent e (sent c) ≡ received_sent e (sent c) ++ (after_sent (sent c) e c).buffer
-  sent_in_order e = at_there c.there
+  sent_in_order e = go c.there c.closed (first c.receivers) refl (ltb (length c.buffer) c.capacity)
     where
-      at_room : (room : Bool) → c.buffer ++ accepted_sent e (sent_to {X = X} None room) ≡ received_sent e (sent_to {X = X} None room) ++ (after_sent (sent_to None room) e c).buffer
-      at_room true = refl
-      at_room false = append-nil c.buffer
-
-      at_first : (o : Option (Entry X)) → first c.receivers ≡ o → c.buffer ++ accepted_sent e (sent_to o (ltb (length c.buffer) c.capacity)) ≡ received_sent e (sent_to o (ltb (length c.buffer) c.capacity)) ++ (after_sent (sent_to o (ltb (length c.buffer) c.capacity)) e c).buffer
-      at_first (Some w) n =
-          let none = (h.receivers_wait (first_some c.receivers w n)).1 in
-          ap (λ l. l ++ (e ∷ [])) none ∙ ap (λ l. e ∷ l) (sym none)
-      at_first None n = at_room (ltb (length c.buffer) c.capacity)
-
-      at_closed : (b : Bool) → c.buffer ++ accepted_sent e (cond b Closed (sent_to (first c.receivers) (ltb (length c.buffer) c.capacity))) ≡ received_sent e (cond b Closed (sent_to (first c.receivers) (ltb (length c.buffer) c.capacity))) ++ (after_sent (cond b Closed (sent_to (first c.receivers) (ltb (length c.buffer) c.capacity))) e c).buffer
-      at_closed true = append-nil c.buffer
-      at_closed false = at_first (first c.receivers) refl
-
-      at_there : (b : Bool) → c.buffer ++ accepted_sent e (cond b (cond c.closed Closed (sent_to (first c.receivers) (ltb (length c.buffer) c.capacity))) ShortBank) ≡ received_sent e (cond b (cond c.closed Closed (sent_to (first c.receivers) (ltb (length c.buffer) c.capacity))) ShortBank) ++ (after_sent (cond b (cond c.closed Closed (sent_to (first c.receivers) (ltb (length c.buffer) c.capacity))) ShortBank) e c).buffer
-      at_there true = at_closed c.closed
-      at_there false = append-nil c.buffer
+      go : (there closed : Bool) (o : Option (Entry X)) → first c.receivers ≡ o → (room : Bool) →
+          let r = cond there (cond closed (Err Closed) (sent_to o room)) (Err ShortBank) in
+          c.buffer ++ accepted_sent e r ≡ received_sent e r ++ (after_sent r e c).buffer
+      go false closed o n room = append-nil c.buffer
+      go true true o n room = append-nil c.buffer
+      go true false (Some w) n room = rw (h.receivers_wait (first_some c.receivers w n)).1 refl
+      go true false None n true = refl
+      go true false None n false = append-nil c.buffer
 
   got_in_order : (f : X → E) (z : E) → c.buffer ++ accepted_got f z (got f z c) ≡ received_got (got f z c) ++ (after_got f z (got f z c) c).buffer
-  got_in_order f z = at_there c.there
+  got_in_order f z = go c.there c.buffer refl (first c.senders) c.closed
     where
-      at_sender : (e : E) (es : List E) → c.buffer ≡ e ∷ es → (o : Option (Entry X)) → c.buffer ++ accepted_got f z (Taken e o) ≡ received_got (Taken e o) ++ (after_got f z (Taken e o) c).buffer
-      at_sender e es b None = append-nil c.buffer ∙ b ∙ ap (λ l. e ∷ l) (sym (ap (drop 1) b))
-      at_sender e es b (Some w) = ap (λ l. l ++ (offered f z w ∷ [])) b ∙ ap (λ l. e ∷ (l ++ (offered f z w ∷ []))) (sym (ap (drop 1) b))
-
-      at_shut : (b : Bool) → c.buffer ++ accepted_got f z (cond {A = Received E X} b Drained Empty) ≡ received_got (cond {A = Received E X} b Drained Empty) ++ (after_got f z (cond {A = Received E X} b Drained Empty) c).buffer
-      at_shut true = append-nil c.buffer
-      at_shut false = append-nil c.buffer
-
-      at_waiter : c.buffer ≡ [] → (o : Option (Entry X)) → c.buffer ++ accepted_got f z (got_from f z o c.closed) ≡ received_got (got_from f z o c.closed) ++ (after_got f z (got_from f z o c.closed) c).buffer
-      at_waiter b (Some w) = ap (λ l. l ++ (offered f z w ∷ [])) b ∙ ap (λ l. offered f z w ∷ l) (sym b)
-      at_waiter b None = at_shut c.closed
-
-      at_buffer : (xs : List E) → c.buffer ≡ xs → c.buffer ++ accepted_got f z (got_in f z xs (first c.senders) c.closed) ≡ received_got (got_in f z xs (first c.senders) c.closed) ++ (after_got f z (got_in f z xs (first c.senders) c.closed) c).buffer
-      at_buffer [] b = at_waiter b (first c.senders)
-      at_buffer (e ∷ es) b = at_sender e es b (first c.senders)
-
-      at_there : (b : Bool) → c.buffer ++ accepted_got f z (cond b (got_in f z c.buffer (first c.senders) c.closed) NoBank) ≡ received_got (cond b (got_in f z c.buffer (first c.senders) c.closed) NoBank) ++ (after_got f z (cond b (got_in f z c.buffer (first c.senders) c.closed) NoBank) c).buffer
-      at_there true = at_buffer c.buffer refl
-      at_there false = append-nil c.buffer
+      go : (there : Bool) (xs : List E) → c.buffer ≡ xs → (o : Option (Entry X)) (closed : Bool) →
+          let r = cond there (got_in f z xs o closed) (Err NoBank) in
+          c.buffer ++ accepted_got f z r ≡ received_got r ++ (after_got f z r c).buffer
+      go false xs b o closed = append-nil c.buffer
+      go true [] b (Some w) closed = rw b refl
+      go true [] b None true = append-nil c.buffer
+      go true [] b None false = append-nil c.buffer
+      go true (e ∷ es) b None closed = append-nil c.buffer ∙ rw b refl
+      go true (e ∷ es) b (Some w) closed = rw b refl
 
 nobody : {A : Type 0} → false ≡ true → A
 nobody t = let z : ◌≡◌ {A = ℕ} 0 1 = ap (λ b. cond b 1 0) t in absurd (omega arith)

@@ -1,5 +1,5 @@
 -- Every call leaves a channel settled.
-use Rattle.std.proofs.Common.{◌≡◌, ℕ, zero, suc, ◌≤◌, Bool, true, false, cond, ltb, List, [], ◌∷◌, ◌++◌, length, drop, Some, None, Option, sym, refl, ap, ◌∙◌, arith}
+use Rattle.std.proofs.Common.{◌≡◌, ℕ, zero, suc, ◌≤◌, Bool, true, false, cond, ltb, List, [], ◌∷◌, ◌++◌, length, drop, Some, None, Option, Ok, Err, sym, refl, ap, ◌∙◌, arith}
 use Rattle.std.proofs.lemmas.List.{length-append, length-drop}
 use Rattle.std.proofs.lemmas.Bool.{ltb-true}
 use Rattle.waiting.specs.declared.wish.Side.{Side}
@@ -8,17 +8,13 @@ use Rattle.waiting.specs.declared.wish.Wish.{Wish}
 use Rattle.waiting.specs.declared.wish.Entry.{Entry}
 use Rattle.waiting.specs.Queues.{queue, first, without}
 use Rattle.waiting.specs.Laws.{others}
-use Rattle.channels.specs.declared.channel.Sent.TheVariants.{ShortBank, Closed}
-use Rattle.channels.specs.declared.channel.Received.{Received}
-use Rattle.channels.specs.declared.channel.Received.TheVariants.{Taken, Drained, Empty, ShortBank as ShortOfCells}
+use Rattle.channels.specs.declared.channel.SendError.TheVariants.{ShortBank, Closed}
+use Rattle.channels.specs.declared.channel.ReceiveError.TheVariants.{ShortBank as ShortOfCells}
 use Rattle.channels.specs.Rules.{sent_to, after_sent, offered}
 use Rattle.channels.specs.Receives.{got_in, got_from, after_got}
 use Rattle.channels.specs.Closes.{both, freed, without_all}
 use Rattle.channels.specs.Settled.{some, Settled, SendsSettle, ReceivesSettle, LeavingSettles, JoiningSettles, ClosingFreesAll}
 use Rattle.channels.proofs.Freed.{freed_more, freed_none, freed_waits, without_less}
-
-never : {A : Type 0} → ◌≡◌ {A = Bool} false true → A
-never h = let z : ◌≡◌ {A = ℕ} 0 1 = ap (λ b. cond b 1 0) h in absurd (omega arith)
 
 some_others : {X : Type 0} (r : ℕ) (es : List (Entry X)) → some (others r es) ≡ true → some es ≡ true
 some_others r [] h = h
@@ -31,70 +27,48 @@ leaving_settles r c h = record {
   senders_wait = λ s. h.senders_wait (some_others r c.senders s);
 }
 
-none_some : {A : Type 0} (xs : List A) → first xs ≡ None → some xs ≡ false
-none_some [] h = refl
-none_some (x ∷ xs) h = let z : ◌≡◌ {A = ℕ} 0 1 = cc in absurd (omega arith)
+none_some : {A : Type 0} (xs : List A) → first xs ≡ None → some xs ≡ true → ⊥
+none_some [] h s = cc
+none_some (x ∷ xs) h s = cc
 
+-- by what the channel finds: its bank, whether it is closed, the first queued receiver, and room
 pub sends_settle : {E X : Type 0} → SendsSettle E X
-sends_settle {E} {X} c e h = at_there c.there
+sends_settle {E} {X} c e h = go c.there c.closed (first c.receivers) refl (ltb (length c.buffer) c.capacity) refl
   where
-    at_room : (room : Bool) → ltb (length c.buffer) c.capacity ≡ room → first c.receivers ≡ None → Settled (after_sent (sent_to {X = X} None room) e c)
-    at_room true t n =
+    go : (there closed : Bool) (o : Option (Entry X)) → first c.receivers ≡ o → (room : Bool) → ltb (length c.buffer) c.capacity ≡ room → Settled (after_sent (cond there (cond closed (Err Closed) (sent_to o room)) (Err ShortBank)) e c)
+    go false closed o n room t = h
+    go true true o n room t = h
+    go true false (Some w) n room t = leaving_settles w.routine c h
+    go true false None n false t = h
+    go true false None n true t =
         let lt = ltb-true (length c.buffer) c.capacity t in
         record {
           few = omega (arith, lt, length-append c.buffer (e ∷ []));
-          receivers_wait = λ s. never (sym (none_some c.receivers n) ∙ s);
+          receivers_wait = λ s. absurd (none_some c.receivers n s);
           senders_wait = λ s. absurd (omega (arith, lt, (h.senders_wait s).1));
         }
-    at_room false t n = h
 
-    at_first : (o : Option (Entry X)) → first c.receivers ≡ o → Settled (after_sent (sent_to o (ltb (length c.buffer) c.capacity)) e c)
-    at_first (Some w) n = leaving_settles w.routine c h
-    at_first None n = at_room (ltb (length c.buffer) c.capacity) refl n
-
-    at_closed : (b : Bool) → Settled (after_sent (cond b Closed (sent_to (first c.receivers) (ltb (length c.buffer) c.capacity))) e c)
-    at_closed true = h
-    at_closed false = at_first (first c.receivers) refl
-
-    at_there : (b : Bool) → Settled (after_sent (cond b (cond c.closed Closed (sent_to (first c.receivers) (ltb (length c.buffer) c.capacity))) ShortBank) e c)
-    at_there true = at_closed c.closed
-    at_there false = h
-
-apart : {A B : Type 0} (xs ys : List A) (x : A) → xs ≡ [] → xs ≡ x ∷ ys → B
-apart xs ys x p q = absurd (omega (arith, ap length p, ap length q))
-
+-- by what the channel finds: its bank, its buffer, the first queued sender, and whether it is closed
 pub receives_settle : {E X : Type 0} → ReceivesSettle E X
-receives_settle {E} {X} f z c h = at_there c.there
+receives_settle {E} {X} f z c h = go c.there c.buffer refl (first c.senders) refl c.closed
   where
-    at_sender : (e : E) (es : List E) → c.buffer ≡ e ∷ es → (o : Option (Entry X)) → first c.senders ≡ o → Settled (after_got f z (Taken e o) c)
-    at_sender e es b None n = record {
+    go : (there : Bool) (xs : List E) → c.buffer ≡ xs → (o : Option (Entry X)) → first c.senders ≡ o → (closed : Bool) → Settled (after_got f z (cond there (got_in f z xs o closed) (Err ShortOfCells)) c)
+    go false xs b o n closed = h
+    go true [] b (Some w) n closed = leaving_settles w.routine c h
+    go true [] b None n true = h
+    go true [] b None n false = h
+    go true (e ∷ es) b None n closed = record {
       few = omega (arith, h.few, length-drop 1 c.buffer);
-      receivers_wait = λ s. apart c.buffer es e (h.receivers_wait s).1 b;
-      senders_wait = λ s. never (sym (none_some c.senders n) ∙ s);
+      receivers_wait = λ s. let k = (h.receivers_wait s).1 in cc;
+      senders_wait = λ s. absurd (none_some c.senders n s);
     }
-    at_sender e es b (Some w) n = record {
+    go true (e ∷ es) b (Some w) n closed = record {
       few = omega (arith, h.few, ap length b, length-drop 1 c.buffer, length-append (drop 1 c.buffer) (offered f z w ∷ []));
-      receivers_wait = λ s. apart c.buffer es e (h.receivers_wait (some_others w.routine c.receivers s)).1 b;
+      receivers_wait = λ s. let k = (h.receivers_wait (some_others w.routine c.receivers s)).1 in cc;
       senders_wait = λ s.
           let full = h.senders_wait (some_others w.routine c.senders s) in
           (full.0, omega (arith, full.1, ap length b, length-drop 1 c.buffer, length-append (drop 1 c.buffer) (offered f z w ∷ [])));
     }
-
-    at_shut : (b : Bool) → Settled (after_got f z (cond {A = Received E X} b Drained Empty) c)
-    at_shut true = h
-    at_shut false = h
-
-    at_waiter : (o : Option (Entry X)) → Settled (after_got f z (got_from f z o c.closed) c)
-    at_waiter (Some w) = leaving_settles w.routine c h
-    at_waiter None = at_shut c.closed
-
-    at_buffer : (xs : List E) → c.buffer ≡ xs → Settled (after_got f z (got_in f z xs (first c.senders) c.closed) c)
-    at_buffer [] b = at_waiter (first c.senders)
-    at_buffer (e ∷ es) b = at_sender e es b (first c.senders) refl
-
-    at_there : (b : Bool) → Settled (after_got f z (cond b (got_in f z c.buffer (first c.senders) c.closed) ShortOfCells) c)
-    at_there true = at_buffer c.buffer refl
-    at_there false = h
 
 -- ---- joining
 some_append : {A : Type 0} (xs ys : List A) (P : Type 0) → (some xs ≡ true → P) → (some ys ≡ true → P) → some (xs ++ ys) ≡ true → P

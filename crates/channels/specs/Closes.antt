@@ -1,11 +1,11 @@
 -- Closing.
-use Rattle.std.specs.Prelude.{ℕ, Bool, cond, List, [], ◌∷◌, ◌++◌}
+use Rattle.std.specs.Prelude.{ℕ, Bool, cond, List, [], ◌∷◌, ◌++◌, Ok, Err, Result}
 use Rattle.waiting.specs.declared.wish.Wish.{Wish}
 use Rattle.waiting.specs.declared.wish.Entry.{Entry}
 use Rattle.waiting.specs.declared.wish.Side.TheVariants.{Receivers, Senders}
 use Rattle.waiting.specs.Queues.{queue, waits, without}
-use Rattle.channels.specs.declared.channel.Closing.{Closing}
-use Rattle.channels.specs.declared.channel.Closing.TheVariants.{AlreadyClosed, NoRoom, Closed}
+use Rattle.channels.specs.declared.channel.CloseError.{CloseError}
+use Rattle.channels.specs.declared.channel.CloseError.TheVariants.{AlreadyClosed, NoRoom}
 
 -- the receivers, and after them the senders
 abbrev pub both : {X : Type 0} → ℕ → List ℕ → List (Wish X) → List (Entry X)
@@ -25,11 +25,6 @@ abbrev pub without_all : {X : Type 0} → List (Entry X) → List ℕ → List �
 without_all [] line = line
 without_all (e ∷ es) line = without_all es (without e.routine line)
 
-abbrev pub closing : Bool → Bool → ℕ → Closing
-closing closed room n = cond closed AlreadyClosed (cond room (Closed n) NoRoom)
-
--- what a close that was made adds, and nothing else
-abbrev pub if_closed : {A : Type 0} → Closing → A → A → A
-if_closed AlreadyClosed a b = b
-if_closed NoRoom a b = b
-if_closed (Closed n) a b = a
+-- how many a close releases
+abbrev pub closing : Bool → Bool → ℕ → Result ℕ CloseError
+closing closed room n = cond closed (Err AlreadyClosed) (cond room (Ok n) (Err NoRoom))

@@ -1,10 +1,12 @@
 -- First in, first out: along any list of operations on a channel.
-use Rattle.std.specs.Prelude.{◌≡◌, ℕ, Bool, true, cond, not, ◌&&◌, ◌||◌, List, [], ◌∷◌, ◌++◌, length, Some, None, Option, ◌==◌}
+use Rattle.std.specs.Prelude.{◌≡◌, ℕ, Bool, true, cond, not, ◌&&◌, ◌||◌, List, [], ◌∷◌, ◌++◌, length, Some, None, Option, Ok, Err, Result, ◌==◌}
 use Rattle.waiting.specs.declared.wish.Entry.{Entry}
 use Rattle.channels.specs.declared.channel.Sent.{Sent}
-use Rattle.channels.specs.declared.channel.Sent.TheVariants.{ShortBank, Closed, Full, Handed, Buffered}
+use Rattle.channels.specs.declared.channel.Sent.TheVariants.{Handed, Buffered}
+use Rattle.channels.specs.declared.channel.SendError.{SendError}
 use Rattle.channels.specs.declared.channel.Received.{Received}
-use Rattle.channels.specs.declared.channel.Received.TheVariants.{ShortBank as NoBank, Empty, Drained, Taken, Handed as Passed}
+use Rattle.channels.specs.declared.channel.Received.TheVariants.{Taken, Handed as Passed, Drained}
+use Rattle.channels.specs.declared.channel.ReceiveError.{ReceiveError}
 use Rattle.channels.specs.Seen.{Told}
 use Rattle.channels.specs.Rules.{sent, after_sent, parted, offered}
 use Rattle.channels.specs.Receives.{got, after_got}
@@ -26,7 +28,7 @@ may_wait rs ss c =
 
 -- closed, with nobody waiting
 abbrev pub closed_off : {E X : Type 0} → Told E X → Told E X
-closed_off c = record { there = c.there; capacity = c.capacity; closed = true; buffer = c.buffer; receivers = []; senders = [] }
+closed_off c = record c { closed = true; receivers = []; senders = [] }
 
 abbrev pub done : {E X : Type 0} → (X → E) → E → Deed E X → Told E X → Told E X
 done f z (sends e) c = after_sent (sent c) e c
@@ -36,37 +38,30 @@ done f z (leaves r) c = parted r c.buffer c
 done f z closes c = closed_off c
 
 -- the elements that the channel accepts by an answer, and those that somebody receives
-abbrev pub accepted_sent : {E X : Type 0} → E → Sent X → List E
-accepted_sent e ShortBank = []
-accepted_sent e Closed = []
-accepted_sent e Full = []
-accepted_sent e (Handed w) = e ∷ []
-accepted_sent e Buffered = e ∷ []
+abbrev pub accepted_sent : {E X : Type 0} → E → Result (Sent X) SendError → List E
+accepted_sent e (Ok how) = e ∷ []
+accepted_sent e (Err why) = []
 
-abbrev pub received_sent : {E X : Type 0} → E → Sent X → List E
-received_sent e ShortBank = []
-received_sent e Closed = []
-received_sent e Full = []
-received_sent e (Handed w) = e ∷ []
-received_sent e Buffered = []
+abbrev pub received_sent : {E X : Type 0} → E → Result (Sent X) SendError → List E
+received_sent e (Ok (Handed w)) = e ∷ []
+received_sent e (Ok Buffered) = []
+received_sent e (Err why) = []
 
 abbrev pub refill : {E X : Type 0} → (X → E) → E → Option (Entry X) → List E
 refill f z None = []
 refill f z (Some w) = offered f z w ∷ []
 
-abbrev pub accepted_got : {E X : Type 0} → (X → E) → E → Received E X → List E
-accepted_got f z NoBank = []
-accepted_got f z Empty = []
-accepted_got f z Drained = []
-accepted_got f z (Taken e sender) = refill f z sender
-accepted_got f z (Passed e w) = e ∷ []
+abbrev pub accepted_got : {E X : Type 0} → (X → E) → E → Result (Received E X) ReceiveError → List E
+accepted_got f z (Ok (Taken e sender)) = refill f z sender
+accepted_got f z (Ok (Passed e w)) = e ∷ []
+accepted_got f z (Ok Drained) = []
+accepted_got f z (Err why) = []
 
-abbrev pub received_got : {E X : Type 0} → Received E X → List E
-received_got NoBank = []
-received_got Empty = []
-received_got Drained = []
-received_got (Taken e sender) = e ∷ []
-received_got (Passed e w) = e ∷ []
+abbrev pub received_got : {E X : Type 0} → Result (Received E X) ReceiveError → List E
+received_got (Ok (Taken e sender)) = e ∷ []
+received_got (Ok (Passed e w)) = e ∷ []
+received_got (Ok Drained) = []
+received_got (Err why) = []
 
 abbrev pub accepts : {E X : Type 0} → (X → E) → E → Deed E X → Told E X → List E
 accepts f z (sends e) c = accepted_sent e (sent c)

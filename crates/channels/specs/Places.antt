@@ -1,12 +1,14 @@
 -- Where a channel writes: the n-th element that it ever buffers goes n mod capacity cells after its base.
-use Rattle.std.specs.Prelude.{◌≡◌, ℕ, ◌+◌, false, List, [], ◌∷◌}
+use Rattle.std.specs.Prelude.{◌≡◌, ℕ, ◌+◌, false, List, [], ◌∷◌, Ok, Err, Result}
 use Rattle.rings.specs.Layouts.{Layout, fresh}
 use Rattle.rings.specs.Laws.{placed}
 use Rattle.waiting.specs.declared.wish.Entry.{Entry}
 use Rattle.channels.specs.declared.channel.Sent.{Sent}
-use Rattle.channels.specs.declared.channel.Sent.TheVariants.{ShortBank, Closed, Full, Handed, Buffered}
+use Rattle.channels.specs.declared.channel.Sent.TheVariants.{Handed, Buffered}
+use Rattle.channels.specs.declared.channel.SendError.{SendError}
 use Rattle.channels.specs.declared.channel.Received.{Received}
-use Rattle.channels.specs.declared.channel.Received.TheVariants.{ShortBank as NoBank, Empty, Drained, Taken, Handed as Passed}
+use Rattle.channels.specs.declared.channel.Received.TheVariants.{Taken, Handed as Passed, Drained}
+use Rattle.channels.specs.declared.channel.ReceiveError.{ReceiveError}
 use Rattle.channels.specs.Seen.{Told, Laid, told, shut}
 use Rattle.channels.specs.Rules.{sent, cells_sent, laid_sent}
 use Rattle.channels.specs.Receives.{got, cells_got, laid_got}
@@ -29,19 +31,16 @@ abbrev pub met : {E X : Type 0} → Laid → Turn E X → Told E X
 met c t = told c t.bank t.receivers t.senders
 
 -- the element that came into the buffer by an answer, if one did
-abbrev pub buffered_sent : {E X : Type 0} → E → Sent X → List E
-buffered_sent e ShortBank = []
-buffered_sent e Closed = []
-buffered_sent e Full = []
-buffered_sent e (Handed w) = []
-buffered_sent e Buffered = e ∷ []
+abbrev pub buffered_sent : {E X : Type 0} → E → Result (Sent X) SendError → List E
+buffered_sent e (Ok (Handed w)) = []
+buffered_sent e (Ok Buffered) = e ∷ []
+buffered_sent e (Err why) = []
 
-abbrev pub buffered_got : {E X : Type 0} → (X → E) → E → Received E X → List E
-buffered_got f z NoBank = []
-buffered_got f z Empty = []
-buffered_got f z Drained = []
-buffered_got f z (Taken e sender) = refill f z sender
-buffered_got f z (Passed e w) = []
+abbrev pub buffered_got : {E X : Type 0} → (X → E) → E → Result (Received E X) ReceiveError → List E
+buffered_got f z (Ok (Taken e sender)) = refill f z sender
+buffered_got f z (Ok (Passed e w)) = []
+buffered_got f z (Ok Drained) = []
+buffered_got f z (Err why) = []
 
 abbrev pub buffered_by : {E X : Type 0} → (X → E) → E → Told E X → Act E → List E
 buffered_by f z c (sending e) = buffered_sent e (sent c)
@@ -64,23 +63,22 @@ abbrev pub counting : {E : Type 0} → List E → ℕ → ℕ
 counting [] n = n
 counting (e ∷ es) n = counting es (n + 1)
 
-abbrev pub filled_sent : {E X : Type 0} → Filling → E → Sent X → Filling
-filled_sent t e r = record { channel = laid_sent r t.channel; puts = counting (buffered_sent e r) t.puts; takes = t.takes }
+abbrev pub filled_sent : {E X : Type 0} → Filling → E → Result (Sent X) SendError → Filling
+filled_sent t e r = record t { channel = laid_sent r t.channel; puts = counting (buffered_sent e r) t.puts }
 
-abbrev pub taking_got : {E X : Type 0} → Received E X → ℕ → ℕ
-taking_got NoBank n = n
-taking_got Empty n = n
-taking_got Drained n = n
-taking_got (Taken e sender) n = n + 1
-taking_got (Passed e w) n = n
+abbrev pub taking_got : {E X : Type 0} → Result (Received E X) ReceiveError → ℕ → ℕ
+taking_got (Ok (Taken e sender)) n = n + 1
+taking_got (Ok (Passed e w)) n = n
+taking_got (Ok Drained) n = n
+taking_got (Err why) n = n
 
-abbrev pub filled_got : {E X : Type 0} → (X → E) → E → Filling → Received E X → Filling
+abbrev pub filled_got : {E X : Type 0} → (X → E) → E → Filling → Result (Received E X) ReceiveError → Filling
 filled_got f z t r = record { channel = laid_got r t.channel; puts = counting (buffered_got f z r) t.puts; takes = taking_got r t.takes }
 
 abbrev pub filled_by : {E X : Type 0} → (X → E) → E → Filling → Told E X → Act E → Filling
 filled_by f z t c (sending e) = filled_sent t e (sent c)
 filled_by f z t c receiving = filled_got f z t (got f z c)
-filled_by f z t c shutting = record { channel = shut t.channel; puts = t.puts; takes = t.takes }
+filled_by f z t c shutting = record t { channel = shut t.channel }
 
 abbrev pub filled : {E X : Type 0} → (X → E) → E → Filling → List (Turn E X) → Filling
 filled f z t [] = t

@@ -1,25 +1,27 @@
 -- Taking a receive.
-use Rattle.std.specs.Prelude.{ℕ, Bool, cond, List, [], ◌∷◌, ◌++◌, drop, Some, None, Option, slice_set}
+use Rattle.std.specs.Prelude.{ℕ, Bool, cond, List, [], ◌∷◌, ◌++◌, drop, Some, None, Option, Ok, Err, Result, slice_set}
 use Rattle.waiting.specs.declared.wish.Entry.{Entry}
 use Rattle.waiting.specs.Queues.{first, without, released}
 use Rattle.rings.specs.Layouts.{Layout, next_cell, one_more, one_less}
 use Rattle.channels.specs.declared.channel.Received.{Received}
-use Rattle.channels.specs.declared.channel.Received.TheVariants.{ShortBank, Empty, Drained, Taken, Handed}
+use Rattle.channels.specs.declared.channel.Received.TheVariants.{Taken, Handed, Drained}
+use Rattle.channels.specs.declared.channel.ReceiveError.{ReceiveError}
+use Rattle.channels.specs.declared.channel.ReceiveError.TheVariants.{ShortBank, Empty}
 use Rattle.channels.specs.Seen.{Told, Laid}
-use Rattle.channels.specs.Rules.{offered, parted, buffering, ringed}
+use Rattle.channels.specs.Rules.{offered, parted}
 
 -- with an empty buffer: the first queued sender's element, or nothing
-abbrev pub got_from : {E X : Type 0} → (X → E) → E → Option (Entry X) → Bool → Received E X
-got_from f z (Some w) closed = Handed (offered f z w) w
-got_from f z None closed = cond closed Drained Empty
+abbrev pub got_from : {E X : Type 0} → (X → E) → E → Option (Entry X) → Bool → Result (Received E X) ReceiveError
+got_from f z (Some w) closed = Ok (Handed (offered f z w) w)
+got_from f z None closed = cond closed (Ok Drained) (Err Empty)
 
 -- the oldest buffered element, and then the first queued sender's element is buffered
-abbrev pub got_in : {E X : Type 0} → (X → E) → E → List E → Option (Entry X) → Bool → Received E X
+abbrev pub got_in : {E X : Type 0} → (X → E) → E → List E → Option (Entry X) → Bool → Result (Received E X) ReceiveError
 got_in f z [] sender closed = got_from f z sender closed
-got_in f z (e ∷ es) sender closed = Taken e sender
+got_in f z (e ∷ es) sender closed = Ok (Taken e sender)
 
-abbrev pub got : {E X : Type 0} → (X → E) → E → Told E X → Received E X
-got f z c = cond c.there (got_in f z c.buffer (first c.senders) c.closed) ShortBank
+abbrev pub got : {E X : Type 0} → (X → E) → E → Told E X → Result (Received E X) ReceiveError
+got f z c = cond c.there (got_in f z c.buffer (first c.senders) c.closed) (Err ShortBank)
 
 -- the buffer when a queued sender's element, if there is one, has come into it
 abbrev pub refilled : {E X : Type 0} → (X → E) → E → Option (Entry X) → List E → List E
@@ -27,43 +29,39 @@ refilled f z None buffer = buffer
 refilled f z (Some w) buffer = buffer ++ (offered f z w ∷ [])
 
 abbrev pub parted_by : {E X : Type 0} → Option (Entry X) → List E → Told E X → Told E X
-parted_by None buffer c = buffering buffer c
+parted_by None buffer c = record c { buffer = buffer }
 parted_by (Some w) buffer c = parted w.routine buffer c
 
-abbrev pub after_got : {E X : Type 0} → (X → E) → E → Received E X → Told E X → Told E X
-after_got f z ShortBank c = c
-after_got f z Empty c = c
-after_got f z Drained c = c
-after_got f z (Taken e sender) c = parted_by sender (refilled f z sender (drop 1 c.buffer)) c
-after_got f z (Handed e w) c = parted w.routine c.buffer c
+abbrev pub after_got : {E X : Type 0} → (X → E) → E → Result (Received E X) ReceiveError → Told E X → Told E X
+after_got f z (Ok (Taken e sender)) c = parted_by sender (refilled f z sender (drop 1 c.buffer)) c
+after_got f z (Ok (Handed e w)) c = parted w.routine c.buffer c
+after_got f z (Ok Drained) c = c
+after_got f z (Err why) c = c
 
-abbrev pub line_got : {E X : Type 0} → Received E X → List ℕ → List ℕ
-line_got ShortBank line = line
-line_got Empty line = line
-line_got Drained line = line
-line_got (Taken e sender) line = released sender line
-line_got (Handed e w) line = without w.routine line
+abbrev pub line_got : {E X : Type 0} → Result (Received E X) ReceiveError → List ℕ → List ℕ
+line_got (Ok (Taken e sender)) line = released sender line
+line_got (Ok (Handed e w)) line = without w.routine line
+line_got (Ok Drained) line = line
+line_got (Err why) line = line
 
 -- one cell is written where a queued sender's element was buffered
 abbrev pub cells_filled : {E X : Type 0} → (X → E) → E → Option (Entry X) → Layout → List E → List E
 cells_filled f z None l bank = bank
 cells_filled f z (Some w) l bank = slice_set bank (next_cell l) (offered f z w)
 
-abbrev pub cells_got : {E X : Type 0} → (X → E) → E → Received E X → Layout → List E → List E
-cells_got f z ShortBank l bank = bank
-cells_got f z Empty l bank = bank
-cells_got f z Drained l bank = bank
-cells_got f z (Taken e sender) l bank = cells_filled f z sender (one_less l) bank
-cells_got f z (Handed e w) l bank = bank
+abbrev pub cells_got : {E X : Type 0} → (X → E) → E → Result (Received E X) ReceiveError → Layout → List E → List E
+cells_got f z (Ok (Taken e sender)) l bank = cells_filled f z sender (one_less l) bank
+cells_got f z (Ok (Handed e w)) l bank = bank
+cells_got f z (Ok Drained) l bank = bank
+cells_got f z (Err why) l bank = bank
 
 -- its ring has one element less, and one more where a queued sender's element was buffered
 abbrev pub laid_filled : {X : Type 0} → Option (Entry X) → Laid → Laid
 laid_filled None c = c
-laid_filled (Some w) c = ringed (one_more c.layout) c
+laid_filled (Some w) c = record c { layout = one_more c.layout }
 
-abbrev pub laid_got : {E X : Type 0} → Received E X → Laid → Laid
-laid_got ShortBank c = c
-laid_got Empty c = c
-laid_got Drained c = c
-laid_got (Taken e sender) c = laid_filled sender (ringed (one_less c.layout) c)
-laid_got (Handed e w) c = c
+abbrev pub laid_got : {E X : Type 0} → Result (Received E X) ReceiveError → Laid → Laid
+laid_got (Ok (Taken e sender)) c = laid_filled sender (record c { layout = one_less c.layout })
+laid_got (Ok (Handed e w)) c = c
+laid_got (Ok Drained) c = c
+laid_got (Err why) c = c

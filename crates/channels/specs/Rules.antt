@@ -1,5 +1,5 @@
 -- The rules of a channel.
-use Rattle.std.specs.Prelude.{ℕ, Bool, cond, List, [], ◌∷◌, ◌++◌, length, Some, None, Option, nat_lt, slice_set}
+use Rattle.std.specs.Prelude.{ℕ, Bool, cond, List, [], ◌∷◌, ◌++◌, length, Some, None, Option, Ok, Err, Result, nat_lt, slice_set}
 use Rattle.waiting.specs.declared.wish.Entry.{Entry}
 use Rattle.waiting.specs.declared.wish.Wish.{Wish}
 use Rattle.waiting.specs.declared.wish.Wish.TheVariants.{Nothing, Send, Receive}
@@ -7,57 +7,45 @@ use Rattle.waiting.specs.Queues.{first, without}
 use Rattle.waiting.specs.Laws.{others}
 use Rattle.rings.specs.Layouts.{Layout, next_cell, one_more}
 use Rattle.channels.specs.declared.channel.Sent.{Sent}
-use Rattle.channels.specs.declared.channel.Sent.TheVariants.{ShortBank, Closed, Full, Handed, Buffered}
+use Rattle.channels.specs.declared.channel.Sent.TheVariants.{Handed, Buffered}
+use Rattle.channels.specs.declared.channel.SendError.{SendError}
+use Rattle.channels.specs.declared.channel.SendError.TheVariants.{ShortBank, Closed, Full}
 use Rattle.channels.specs.Seen.{Told, Laid}
 
 -- the first queued receiver gets the element; else it is buffered, if there is room
-abbrev pub sent_to : {X : Type 0} → Option (Entry X) → Bool → Sent X
-sent_to (Some w) room = Handed w
-sent_to None room = cond room Buffered Full
+abbrev pub sent_to : {X : Type 0} → Option (Entry X) → Bool → Result (Sent X) SendError
+sent_to (Some w) room = Ok (Handed w)
+sent_to None room = cond room (Ok Buffered) (Err Full)
 
-abbrev pub sent : {E X : Type 0} → Told E X → Sent X
-sent c = cond c.there (cond c.closed Closed (sent_to (first c.receivers) (nat_lt (length c.buffer) c.capacity))) ShortBank
+abbrev pub sent : {E X : Type 0} → Told E X → Result (Sent X) SendError
+sent c = cond c.there (cond c.closed (Err Closed) (sent_to (first c.receivers) (nat_lt (length c.buffer) c.capacity))) (Err ShortBank)
 
 -- the waiting line afterwards: who was served leaves every queue
-abbrev pub line_sent : {X : Type 0} → Sent X → List ℕ → List ℕ
-line_sent ShortBank line = line
-line_sent Closed line = line
-line_sent Full line = line
-line_sent (Handed w) line = without w.routine line
-line_sent Buffered line = line
+abbrev pub line_sent : {X : Type 0} → Result (Sent X) SendError → List ℕ → List ℕ
+line_sent (Ok (Handed w)) line = without w.routine line
+line_sent (Ok Buffered) line = line
+line_sent (Err why) line = line
 
 -- the channel afterwards: who was served is in none of its queues, and the others keep their order
 abbrev pub parted : {E X : Type 0} → ℕ → List E → Told E X → Told E X
-parted r buffer c = record { there = c.there; capacity = c.capacity; closed = c.closed; buffer = buffer; receivers = others r c.receivers; senders = others r c.senders }
+parted r buffer c = record c { buffer = buffer; receivers = others r c.receivers; senders = others r c.senders }
 
-abbrev pub buffering : {E X : Type 0} → List E → Told E X → Told E X
-buffering buffer c = record { there = c.there; capacity = c.capacity; closed = c.closed; buffer = buffer; receivers = c.receivers; senders = c.senders }
-
-abbrev pub after_sent : {E X : Type 0} → Sent X → E → Told E X → Told E X
-after_sent ShortBank e c = c
-after_sent Closed e c = c
-after_sent Full e c = c
-after_sent (Handed w) e c = parted w.routine c.buffer c
-after_sent Buffered e c = buffering (c.buffer ++ (e ∷ [])) c
+abbrev pub after_sent : {E X : Type 0} → Result (Sent X) SendError → E → Told E X → Told E X
+after_sent (Ok (Handed w)) e c = parted w.routine c.buffer c
+after_sent (Ok Buffered) e c = record c { buffer = c.buffer ++ (e ∷ []) }
+after_sent (Err why) e c = c
 
 -- the bank afterwards: one cell is written where the element was buffered
-abbrev pub cells_sent : {E X : Type 0} → Sent X → Layout → E → List E → List E
-cells_sent ShortBank l e bank = bank
-cells_sent Closed l e bank = bank
-cells_sent Full l e bank = bank
-cells_sent (Handed w) l e bank = bank
-cells_sent Buffered l e bank = slice_set bank (next_cell l) e
+abbrev pub cells_sent : {E X : Type 0} → Result (Sent X) SendError → Layout → E → List E → List E
+cells_sent (Ok (Handed w)) l e bank = bank
+cells_sent (Ok Buffered) l e bank = slice_set bank (next_cell l) e
+cells_sent (Err why) l e bank = bank
 
 -- the channel as it lies afterwards: its ring has one element more where the element was buffered
-abbrev pub ringed : Layout → Laid → Laid
-ringed l c = record { number = c.number; layout = l; closed = c.closed }
-
-abbrev pub laid_sent : {X : Type 0} → Sent X → Laid → Laid
-laid_sent ShortBank c = c
-laid_sent Closed c = c
-laid_sent Full c = c
-laid_sent (Handed w) c = c
-laid_sent Buffered c = ringed (one_more c.layout) c
+abbrev pub laid_sent : {X : Type 0} → Result (Sent X) SendError → Laid → Laid
+laid_sent (Ok (Handed w)) c = c
+laid_sent (Ok Buffered) c = record c { layout = one_more c.layout }
+laid_sent (Err why) c = c
 
 -- the element that a case offers to send
 abbrev pub offer : {E X : Type 0} → (X → E) → E → Wish X → E

@@ -48,4 +48,4 @@ abbrev pub new_channel : ℕ → ℕ → ℕ → Option Laid
 new_channel number base capacity = cond (can_lie base capacity) (Some (record { number = number; layout = fresh base capacity; closed = false })) None
 
 abbrev pub shut : Laid → Laid
-shut c = record { number = c.number; layout = c.layout; closed = true }
+shut c = record c { closed = true }

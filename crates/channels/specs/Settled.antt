@@ -33,7 +33,7 @@ LeavingSettles E X = (r : ℕ) (c : Told E X) → Settled c → Settled (parted 
 
 -- a routine that joins both queues of a channel with these entries
 abbrev pub joined_by : {E X : Type 0} → List (Entry X) → List (Entry X) → Told E X → Told E X
-joined_by rs ss c = record { there = c.there; capacity = c.capacity; closed = c.closed; buffer = c.buffer; receivers = c.receivers ++ rs; senders = c.senders ++ ss }
+joined_by rs ss c = record c { receivers = c.receivers ++ rs; senders = c.senders ++ ss }
 
 -- a channel keeps it where a routine joins with cases that cannot go there
 abbrev pub JoiningSettles : Type 0 → Type 0 → Type 0

@@ -21,43 +21,51 @@ pub trait Carries<E: Element>: Copy {
         ensures { result ≡ carried self };
 }
 
-// What came of taking a send.
-#[derive(Drop)]
+// Where a sent element went.
+#[derive(Clone, Copy)]
 pub enum Sent<X> {
-    // The bank has not all cells of the channel; nothing changed.
-    ShortBank,
-    // The channel is closed; nothing changed.
-    Closed,
-    // No receiver waits and the buffer is full; nothing changed.
-    Full,
-    // The first queued receiver got the element, and waits no more.
+    // To the first queued receiver, who waits no more.
     Handed(Entry<X>),
-    // The element is the newest in the buffer.
+    // Into the buffer, as its newest.
     Buffered,
 }
 
-// What came of taking a receive.
-#[derive(Drop)]
+// What a receive came by.
+#[derive(Clone, Copy)]
 pub enum Received<E, X> {
-    // The bank has not all cells of the channel; nothing changed.
-    ShortBank,
-    // Nothing is buffered, no sender waits and the channel is open; nothing changed.
-    Empty,
-    // Nothing is buffered, no sender waits and the channel is closed: the zero element, with flag 0.
-    Drained,
     // The oldest buffered element; and the first queued sender, whose element is the newest in the buffer now.
     Taken(E, Option<Entry<X>>),
     // The element of the first queued sender, who waits no more.
     Handed(E, Entry<X>),
+    // Nothing is buffered, no sender waits and the channel is closed: the zero element, with flag 0.
+    Drained,
 }
 
-// What came of closing.
-#[derive(Clone, Copy)]
-pub enum Closing {
-    // It was closed before; nothing changed.
+// Why a send was refused; nothing changed.
+#[derive(Clone, Copy, Debug, PartialEq, Eq)]
+pub enum SendError {
+    // The bank has not all cells of the channel.
+    ShortBank,
+    // The channel is closed.
+    Closed,
+    // No receiver waits and the buffer is full.
+    Full,
+}
+
+// Why a receive was refused; nothing changed.
+#[derive(Clone, Copy, Debug, PartialEq, Eq)]
+pub enum ReceiveError {
+    // The bank has not all cells of the channel.
+    ShortBank,
+    // Nothing is buffered, no sender waits and the channel is open.
+    Empty,
+}
+
+// Why a close was refused; nothing changed.
+#[derive(Clone, Copy, Debug, PartialEq, Eq)]
+pub enum CloseError {
+    // It was closed before.
     AlreadyClosed,
-    // There is no room to note 64 routines; nothing changed.
+    // There is no room to note 64 routines.
     NoRoom,
-    // It is closed, and so many routines were released.
-    Closed(usize),
 }

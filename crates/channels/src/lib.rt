@@ -7,5 +7,5 @@ mod laws;
 mod making;
 mod rules;
 
-pub use channel::{Carries, Channel, Closing, Received, Sent};
+pub use channel::{Carries, Channel, CloseError, ReceiveError, Received, SendError, Sent};
 pub use laws::{channels_keep_order, channels_keep_places, channels_stay_settled};

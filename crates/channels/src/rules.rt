@@ -9,7 +9,7 @@ ghost use Rattle.channels.specs.Receives.{got, got_from, after_got, line_got, ce
 ghost use Rattle.waiting.specs.declared.wish.Side.TheVariants.{Receivers, Senders};
 ghost use Rattle.waiting.specs.Laws.{Served};
 
-use crate::channel::{Carries, Channel, Received, Sent};
+use crate::channel::{Carries, Channel, ReceiveError, Received, SendError, Sent};
 use elements::Element;
 use waiting::{Entry, Side, Waiting, Wish};
 
@@ -30,7 +30,7 @@ impl Channel {
         waiting: &mut Waiting<X>,
         bank: &mut [E],
         e: E,
-    ) -> Sent<X>
+    ) -> Result<Sent<X>, SendError>
         ensures answer { result ≡ sent (seen self.old bank.old (line_of waiting.old) (table_of waiting.old)) }
         ensures after { seen self.new bank.new (line_of waiting.new) (table_of waiting.new) ≡ after_sent result e (seen self.old bank.old (line_of waiting.old) (table_of waiting.old)) }
         ensures line { line_of waiting.new ≡ line_sent result (line_of waiting.old) }
@@ -39,17 +39,17 @@ impl Channel {
         ensures channel { laid self.new ≡ laid_sent result (laid self.old) }
     {
         if !self.ring.lies_in(bank) {
-            return Sent::ShortBank;
+            return Err(SendError::ShortBank);
         }
         if self.closed {
-            return Sent::Closed;
+            return Err(SendError::Closed);
         }
         if let Some(receiver) = waiting.release_first(Side::Receivers, self.number) {
-            return Sent::Handed(receiver);
+            return Ok(Sent::Handed(receiver));
         }
         match self.ring.put(bank, e) {
-            Ok(()) => Sent::Buffered,
-            Err(_) => Sent::Full,
+            Ok(()) => Ok(Sent::Buffered),
+            Err(_) => Err(SendError::Full),
         }
     }
 
@@ -68,9 +68,7 @@ impl Channel {
         ensures cells { bank.new ≡ cells_filled X.carried E.nought result (layout self.old.ring) bank.old }
         ensures channel { laid self.new ≡ laid_filled result (laid self.old) }
     {
-        let Some(sender) = waiting.release_first(Side::Senders, self.number) else {
-            return None;
-        };
+        let sender = waiting.release_first(Side::Senders, self.number)?;
         let _ = self.ring.put(bank, offered_by(sender));
         Some(sender)
     }
@@ -79,16 +77,16 @@ impl Channel {
     fn receive_unbuffered<E: Element, X: Carries<E>>(
         &self,
         waiting: &mut Waiting<X>,
-    ) -> Received<E, X>
+    ) -> Result<Received<E, X>, ReceiveError>
         ensures answer { result ≡ got_from X.carried E.nought (first_of (queue Senders self.now.number (line_of waiting.old) (table_of waiting.old))) self.now.closed }
         ensures line { line_of waiting.new ≡ line_got result (line_of waiting.old) }
         ensures table { table_of waiting.new ≡ table_of waiting.old }
         ensures queues { (bank : List E) → seen self.now bank (line_of waiting.new) (table_of waiting.new) ≡ after_got X.carried E.nought result (seen self.now bank (line_of waiting.old) (table_of waiting.old)) }
     {
         match waiting.release_first(Side::Senders, self.number) {
-            Some(sender) => Received::Handed(offered_by(sender), sender),
-            None if self.closed => Received::Drained,
-            None => Received::Empty,
+            Some(sender) => Ok(Received::Handed(offered_by(sender), sender)),
+            None if self.closed => Ok(Received::Drained),
+            None => Err(ReceiveError::Empty),
         }
     }
 
@@ -97,7 +95,7 @@ impl Channel {
         &mut self,
         waiting: &mut Waiting<X>,
         bank: &mut [E],
-    ) -> Received<E, X>
+    ) -> Result<Received<E, X>, ReceiveError>
         ensures answer { result ≡ got X.carried E.nought (seen self.old bank.old (line_of waiting.old) (table_of waiting.old)) }
         ensures after { seen self.new bank.new (line_of waiting.new) (table_of waiting.new) ≡ after_got X.carried E.nought result (seen self.old bank.old (line_of waiting.old) (table_of waiting.old)) }
         ensures line { line_of waiting.new ≡ line_got result (line_of waiting.old) }
@@ -106,10 +104,10 @@ impl Channel {
         ensures channel { laid self.new ≡ laid_got result (laid self.old) }
     {
         if !self.ring.lies_in(bank) {
-            return Received::ShortBank;
+            return Err(ReceiveError::ShortBank);
         }
         match self.ring.take(bank) {
-            Ok(e) => Received::Taken(e, self.refill(waiting, bank)),
+            Ok(e) => Ok(Received::Taken(e, self.refill(waiting, bank))),
             Err(_) => self.receive_unbuffered(waiting),
         }
     }
