@@ -1,5 +1,5 @@
 -- What is accepted is received in order.
-use Rattle.std.proofs.Common.{◌≡◌, ℕ, Bool, true, false, cond, not, ◌&&◌, ◌||◌, eqb, ltb, List, [], ◌∷◌, ◌++◌, length, drop, Some, None, Option, Ok, Err, sym, refl, ap, ◌∙◌, arith}
+use Rattle.std.proofs.Common.{◌≡◌, ℕ, Bool, true, false, cond, not, ◌&&◌, ◌||◌, eqb, ltb, List, [], ◌∷◌, ◌++◌, length, Some, None, Option, Err, sym, refl, ap, ◌∙◌, arith}
 use Rattle.std.proofs.lemmas.List.{append_assoc, append-nil, nil_from_length}
 use Rattle.std.proofs.lemmas.Bool.{and_parts, eqb-true}
 use Rattle.waiting.specs.declared.wish.Entry.{Entry}
@@ -7,8 +7,8 @@ use Rattle.waiting.specs.Queues.{first}
 use Rattle.channels.specs.declared.channel.SendError.TheVariants.{ShortBank, Closed}
 use Rattle.channels.specs.declared.channel.ReceiveError.TheVariants.{ShortBank as NoBank}
 use Rattle.channels.specs.Seen.{Told}
-use Rattle.channels.specs.Rules.{sent, sent_to, after_sent, offered}
-use Rattle.channels.specs.Receives.{got, got_in, got_from, after_got}
+use Rattle.channels.specs.Rules.{sent, sent_to, after_sent}
+use Rattle.channels.specs.Receives.{got, got_in, after_got}
 use Rattle.channels.specs.Settled.{some, Settled, joined_by}
 use Rattle.channels.specs.Orders.{Deed, sends, receives, joins, leaves, closes, may_wait, done, accepted_sent, received_sent, accepted_got, received_got, accepts, gives, all_done, all_accepted, all_received, FirstInFirstOut}
 use Rattle.channels.proofs.Settled.{sends_settle, receives_settle, leaving_settles, joining_settles}

@@ -1,5 +1,5 @@
 -- Every call leaves a channel settled.
-use Rattle.std.proofs.Common.{◌≡◌, ℕ, zero, suc, ◌≤◌, Bool, true, false, cond, ltb, List, [], ◌∷◌, ◌++◌, length, drop, Some, None, Option, Ok, Err, sym, refl, ap, ◌∙◌, arith}
+use Rattle.std.proofs.Common.{◌≡◌, ℕ, zero, suc, ◌≤◌, Bool, true, false, cond, ltb, List, [], ◌∷◌, ◌++◌, length, drop, Some, None, Option, Err, refl, ap, ◌∙◌, arith}
 use Rattle.std.proofs.lemmas.List.{length-append, length-drop}
 use Rattle.std.proofs.lemmas.Bool.{ltb-true}
 use Rattle.waiting.specs.declared.wish.Side.{Side}
@@ -11,7 +11,7 @@ use Rattle.waiting.specs.Laws.{others}
 use Rattle.channels.specs.declared.channel.SendError.TheVariants.{ShortBank, Closed}
 use Rattle.channels.specs.declared.channel.ReceiveError.TheVariants.{ShortBank as ShortOfCells}
 use Rattle.channels.specs.Rules.{sent_to, after_sent, offered}
-use Rattle.channels.specs.Receives.{got_in, got_from, after_got}
+use Rattle.channels.specs.Receives.{got_in, after_got}
 use Rattle.channels.specs.Closes.{both, freed, without_all}
 use Rattle.channels.specs.Settled.{some, Settled, SendsSettle, ReceivesSettle, LeavingSettles, JoiningSettles, ClosingFreesAll}
 use Rattle.channels.proofs.Freed.{freed_more, freed_none, freed_waits, without_less}

@@ -11,6 +11,7 @@ ghost use Rattle.waiting.specs.Laws.{Served};
 
 use crate::channel::{Carries, Channel, ReceiveError, Received, SendError, Sent};
 use elements::Element;
+use rings::RingError;
 use waiting::{Entry, Side, Waiting, Wish};
 
 // The element that a queued sender offers.
@@ -47,10 +48,8 @@ impl Channel {
         if let Some(receiver) = waiting.release_first(Side::Receivers, self.number) {
             return Ok(Sent::Handed(receiver));
         }
-        match self.ring.put(bank, e) {
-            Ok(()) => Ok(Sent::Buffered),
-            Err(_) => Err(SendError::Full),
-        }
+        self.ring.put(bank, e).map_err(|_| SendError::Full)?;
+        Ok(Sent::Buffered)
     }
 
     // The element of the first queued sender comes into the buffer, where there is room now.
@@ -103,11 +102,9 @@ impl Channel {
         ensures cells { bank.new ≡ cells_got X.carried E.nought result (layout self.old.ring) bank.old }
         ensures channel { laid self.new ≡ laid_got result (laid self.old) }
     {
-        if !self.ring.lies_in(bank) {
-            return Err(ReceiveError::ShortBank);
-        }
         match self.ring.take(bank) {
             Ok(e) => Ok(Received::Taken(e, self.refill(waiting, bank))),
+            Err(RingError::ShortBank) => Err(ReceiveError::ShortBank),
             Err(_) => self.receive_unbuffered(waiting),
         }
     }
@@ -120,6 +117,7 @@ impl Channel {
         ensures table { table_of waiting.new ≡ table_of waiting.old }
         ensures served { Served result (line_of waiting.old) (table_of waiting.old) (line_of waiting.new) (table_of waiting.new) }
     {
+        // `or_else` does not say that the line is left alone where its closure is not called.
         match waiting.release_first(Side::Receivers, self.number) {
             Some(receiver) => Some(receiver),
             None => waiting.release_first(Side::Senders, self.number),

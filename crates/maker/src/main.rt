@@ -4,7 +4,7 @@
 mod pair;
 
 use anyhow::anyhow;
-use channels::{Channel, Closing, Received, Sent};
+use channels::{Channel, CloseError, ReceiveError, Received, SendError, Sent};
 use pair::Pair;
 use waiting::{Waiting, Wish};
 
@@ -16,27 +16,36 @@ struct Desk {
     cells: Vec<Pair>,
 }
 
-fn print_sent(rt: &HostRuntime, pair: Pair, sent: Sent<Pair>) -> anyhow::Result<()> {
+fn print_sent(
+    rt: &HostRuntime,
+    pair: Pair,
+    sent: Result<Sent<Pair>, SendError>,
+) -> anyhow::Result<()> {
     match sent {
-        Sent::ShortBank => println!(rt; "send {pair}: the bank is too short")?,
-        Sent::Closed => println!(rt; "send {pair}: the channel is closed")?,
-        Sent::Full => println!(rt; "send {pair}: the buffer is full")?,
-        Sent::Handed(to) => println!(rt; "send {pair}: handed to routine {}", to.routine)?,
-        Sent::Buffered => println!(rt; "send {pair}: buffered")?,
+        Ok(Sent::Handed(to)) => println!(rt; "send {pair}: handed to routine {}", to.routine)?,
+        Ok(Sent::Buffered) => println!(rt; "send {pair}: buffered")?,
+        Err(SendError::ShortBank) => println!(rt; "send {pair}: the bank is too short")?,
+        Err(SendError::Closed) => println!(rt; "send {pair}: the channel is closed")?,
+        Err(SendError::Full) => println!(rt; "send {pair}: the buffer is full")?,
     }
     Ok(())
 }
 
-fn print_received(rt: &HostRuntime, received: Received<Pair, Pair>) -> anyhow::Result<()> {
+fn print_received(
+    rt: &HostRuntime,
+    received: Result<Received<Pair, Pair>, ReceiveError>,
+) -> anyhow::Result<()> {
     match received {
-        Received::ShortBank => println!(rt; "receive: the bank is too short")?,
-        Received::Empty => println!(rt; "receive: nothing is there")?,
-        Received::Drained => println!(rt; "receive: closed and empty")?,
-        Received::Taken(pair, None) => println!(rt; "receive {pair}")?,
-        Received::Taken(pair, Some(from)) => {
+        Ok(Received::Taken(pair, None)) => println!(rt; "receive {pair}")?,
+        Ok(Received::Taken(pair, Some(from))) => {
             println!(rt; "receive {pair}, and routine {} goes on", from.routine)?
         }
-        Received::Handed(pair, from) => println!(rt; "receive {pair} of routine {}", from.routine)?,
+        Ok(Received::Handed(pair, from)) => {
+            println!(rt; "receive {pair} of routine {}", from.routine)?
+        }
+        Ok(Received::Drained) => println!(rt; "receive: closed and empty")?,
+        Err(ReceiveError::ShortBank) => println!(rt; "receive: the bank is too short")?,
+        Err(ReceiveError::Empty) => println!(rt; "receive: nothing is there")?,
     }
     Ok(())
 }
@@ -61,9 +70,9 @@ fn wait(rt: &HostRuntime, desk: &mut Desk, routine: u32, wish: Wish<Pair>) -> an
 fn close(rt: &HostRuntime, desk: &mut Desk) -> anyhow::Result<()> {
     let mut freed = Vec::with_capacity(rt.alloc(), 64)?;
     match desk.channel.close(&mut desk.waiting, &mut freed) {
-        Closing::Closed(count) => println!(rt; "close: {count} released")?,
-        Closing::AlreadyClosed => println!(rt; "close: closed before")?,
-        Closing::NoRoom => println!(rt; "close: no room")?,
+        Ok(count) => println!(rt; "close: {count} released")?,
+        Err(CloseError::AlreadyClosed) => println!(rt; "close: closed before")?,
+        Err(CloseError::NoRoom) => println!(rt; "close: no room")?,
     }
     Ok(())
 }

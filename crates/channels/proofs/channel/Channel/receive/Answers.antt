@@ -1,4 +1,5 @@
 use Rattle.std.proofs.Common.{sym, ap, ◌∙◌, arith}
+use Rattle.std.proofs.lemmas.Bool.{le-leb}
 use Rattle.rings.specs.Layouts.{Layout, layout, covers}
 use Rattle.rings.proofs.Holding.{held_most}
 use Rattle.rings.proofs.Turns.{can_take}
@@ -12,6 +13,6 @@ refill-requires g c =
     let t = c.in-Ok.ensures in
     let k = can_take (layout before) bank c.in-Ok.e (sym t.answer) in
     record {
-      there = ap (λ m. covers m bank) t.ring ∙ sym c.if-not-lies_in.ensures;
+      there = ap (λ m. covers m bank) t.ring ∙ le-leb _ _ k.fits;
       room = omega (arith, held_most (layout c.take.new.self) bank, ap (λ (m : Layout). m.count) t.ring, ap (λ (m : Layout). m.capacity) t.ring, k.some, before.counted);
     }
