@@ -1,5 +1,5 @@
 -- Every call leaves a channel settled.
-use Rattle.std.proofs.Common.{◌≡◌, ℕ, zero, suc, ◌≤◌, Bool, true, false, cond, ltb, List, [], ◌∷◌, ◌++◌, length, drop, Some, None, Option, Err, refl, ap, ◌∙◌, arith}
+use Rattle.std.proofs.Common.{◌≡◌, ℕ, zero, suc, ◌≤◌, Bool, true, false, cond, ltb, List, [], ◌∷◌, ◌++◌, length, drop, Some, None, Option, Err, sym, refl, ap, ◌∙◌, arith}
 use Rattle.std.proofs.lemmas.List.{length-append, length-drop}
 use Rattle.std.proofs.lemmas.Bool.{ltb-true}
 use Rattle.waiting.specs.declared.wish.Side.{Side}
@@ -14,7 +14,7 @@ use Rattle.channels.specs.Rules.{sent_to, after_sent, offered}
 use Rattle.channels.specs.Receives.{got_in, after_got}
 use Rattle.channels.specs.Closes.{both, freed, without_all}
 use Rattle.channels.specs.Settled.{some, Settled, SendsSettle, ReceivesSettle, LeavingSettles, JoiningSettles, ClosingFreesAll}
-use Rattle.channels.proofs.Freed.{freed_more, freed_none, freed_waits, without_less}
+use Rattle.channels.proofs.Freed.{first_freed, freed_more}
 
 some_others : {X : Type 0} (r : ℕ) (es : List (Entry X)) → some (others r es) ≡ true → some es ≡ true
 some_others r [] h = h
@@ -93,19 +93,11 @@ side_none Receivers c line table h = (none_parts (queue Receivers c line table) 
 side_none Senders c line table h = (none_parts (queue Receivers c line table) (queue Senders c line table) h).1
 
 module _ {X : Type 0} (s : Side) (c : ℕ) (table : List (Wish X)) where
-  frees : (n : ℕ) (line : List ℕ) → length line ≤ n → queue s c (without_all (freed c line table) line) table ≡ []
-  frees zero line le = go (first (both c line table)) refl
-    where
-      go : (o : Option (Entry X)) → first (both c line table) ≡ o → queue s c (without_all (freed c line table) line) table ≡ []
-      go None f = ap (λ l. queue s c (without_all l line) table) (freed_none c line table f) ∙ side_none s c line table f
-      go (Some e) f = absurd (omega (arith, without_less e.routine line (freed_waits c line table e f)))
-  frees (suc n) line le = go (first (both c line table)) refl (frees n)
-    where
-      go : (o : Option (Entry X)) → first (both c line table) ≡ o → ((l : List ℕ) → length l ≤ n → queue s c (without_all (freed c l table) l) table ≡ []) → queue s c (without_all (freed c line table) line) table ≡ []
-      go None f more = ap (λ l. queue s c (without_all l line) table) (freed_none c line table f) ∙ side_none s c line table f
-      go (Some e) f more =
-          ap (λ l. queue s c (without_all l line) table) (freed_more c line table e f)
-          ∙ more (without e.routine line) (omega (arith, without_less e.routine line (freed_waits c line table e f)))
+  frees : (es : List (Entry X)) (line : List ℕ) → freed c line table ≡ es → queue s c (without_all es line) table ≡ []
+  frees [] line h = side_none s c line table (sym (first_freed c line table) ∙ ap first h)
+  frees (e ∷ es) line h =
+      let more = freed_more c line table e (sym (first_freed c line table) ∙ ap first h) in
+      frees es (without e.routine line) (cc)
 
 pub closing_frees_all : {X : Type 0} → ClosingFreesAll X
-closing_frees_all s c line table = frees s c table (length line) line (omega arith)
+closing_frees_all s c line table = frees s c table (freed c line table) line refl

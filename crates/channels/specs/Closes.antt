@@ -3,7 +3,8 @@ use Rattle.std.specs.Prelude.{ℕ, Bool, cond, List, [], ◌∷◌, ◌++◌, Ok
 use Rattle.waiting.specs.declared.wish.Wish.{Wish}
 use Rattle.waiting.specs.declared.wish.Entry.{Entry}
 use Rattle.waiting.specs.declared.wish.Side.TheVariants.{Receivers, Senders}
-use Rattle.waiting.specs.Queues.{queue, waits, without}
+use Rattle.waiting.specs.Queues.{queue, without}
+use Rattle.waiting.specs.Laws.{others}
 use Rattle.channels.specs.declared.channel.CloseError.{CloseError}
 use Rattle.channels.specs.declared.channel.CloseError.TheVariants.{AlreadyClosed, NoRoom}
 
@@ -11,14 +12,14 @@ use Rattle.channels.specs.declared.channel.CloseError.TheVariants.{AlreadyClosed
 abbrev pub both : {X : Type 0} → ℕ → List ℕ → List (Wish X) → List (Entry X)
 both c line table = queue Receivers c line table ++ queue Senders c line table
 
--- of each routine the first entry met, those of `met` left out
-abbrev pub firsts : {X : Type 0} → List ℕ → List (Entry X) → List (Entry X)
-firsts met [] = []
-firsts met (e ∷ es) = cond (waits e.routine met) (firsts met es) (e ∷ firsts (e.routine ∷ met) es)
+-- of each routine the first entry met
+abbrev pub firsts : {X : Type 0} → List (Entry X) → List (Entry X)
+firsts [] = []
+firsts (e ∷ es) = e ∷ others e.routine (firsts es)
 
 -- who is released, in order
 abbrev pub freed : {X : Type 0} → ℕ → List ℕ → List (Wish X) → List (Entry X)
-freed c line table = firsts [] (both c line table)
+freed c line table = firsts (both c line table)
 
 -- the line when these have left it
 abbrev pub without_all : {X : Type 0} → List (Entry X) → List ℕ → List ℕ
