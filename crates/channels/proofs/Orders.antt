@@ -1,7 +1,7 @@
 -- What is accepted is received in order.
 use Rattle.std.proofs.Common.{◌≡◌, ℕ, Bool, true, false, cond, not, ◌&&◌, ◌||◌, eqb, ltb, List, [], ◌∷◌, ◌++◌, length, Some, None, Option, Err, sym, refl, ap, ◌∙◌, arith}
 use Rattle.std.proofs.lemmas.List.{append_assoc, append-nil, nil_from_length}
-use Rattle.std.proofs.lemmas.Bool.{and_parts, eqb-true}
+use Rattle.std.proofs.lemmas.Bool.{and_parts, eqb-true, false≢true}
 use Rattle.waiting.specs.declared.wish.Entry.{Entry}
 use Rattle.waiting.specs.Queues.{first}
 use Rattle.channels.specs.declared.channel.SendError.TheVariants.{ShortBank, Closed}
@@ -43,38 +43,25 @@ module _ {E X : Type 0} (c : Told E X) (h : Settled c) where
       go true (e ∷ es) b None closed = append-nil c.buffer ∙ rw b refl
       go true (e ∷ es) b (Some w) closed = rw b refl
 
-nobody : {A : Type 0} → false ≡ true → A
-nobody t = let z : ◌≡◌ {A = ℕ} 0 1 = ap (λ b. cond b 1 0) t in absurd (omega arith)
-
-implied : (b p : Bool) → (not b || p) ≡ true → b ≡ true → p ≡ true
-implied true p h t = h
-implied false p h t = let z : ◌≡◌ {A = ℕ} 0 1 = ap (λ b. cond b 1 0) t in absurd (omega arith)
-
-open_if : (b : Bool) → not b ≡ true → b ≡ false
-open_if true h = sym h
-open_if false h = refl
+-- who joins where cases cannot go
+stuck : (wants closed : Bool) (m n : ℕ) → (not wants || (not closed && eqb m n)) ≡ true → wants ≡ true → (closed ≡ false) × (m ≡ n)
+stuck true false m n t w = (refl, eqb-true m n t)
+stuck true true m n t w = cc
+stuck false closed m n t w = cc
 
 module _ {E X : Type 0} (f : X → E) (z : E) where
   in_order : (d : Deed E X) (c : Told E X) → Settled c → Settled (done f z d c) × (c.buffer ++ accepts f z d c ≡ gives f z d c ++ (done f z d c).buffer)
   in_order (sends e) c h = (sends_settle c e h, sent_in_order c h e)
   in_order receives c h = (receives_settle f z c h, got_in_order c h f z)
   in_order (leaves r) c h = (leaving_settles r c h, append-nil c.buffer)
-  in_order closes c h = (record { few = h.few; receivers_wait = nobody; senders_wait = nobody }, append-nil c.buffer)
+  in_order closes c h = (record { few = h.few; receivers_wait = λ t. absurd (false≢true t); senders_wait = λ t. absurd (false≢true t) }, append-nil c.buffer)
   in_order (joins rs ss) c h = go (may_wait rs ss c) refl
     where
       go : (b : Bool) → may_wait rs ss c ≡ b → Settled (cond b (joined_by rs ss c) c) × (c.buffer ++ [] ≡ (cond b (joined_by rs ss c) c).buffer)
       go true t =
-          let both = and_parts (not (some rs) || (not c.closed && eqb (length c.buffer) 0)) (not (some ss) || (not c.closed && eqb (length c.buffer) c.capacity)) t in (
-            joining_settles rs ss c
-                (λ s.
-                let p = and_parts (not c.closed) (eqb (length c.buffer) 0) (implied (some rs) _ both.0 s) in
-                (open_if c.closed p.0, nil_from_length c.buffer (eqb-true (length c.buffer) 0 p.1)))
-                (λ s.
-                let p = and_parts (not c.closed) (eqb (length c.buffer) c.capacity) (implied (some ss) _ both.1 s) in
-                (open_if c.closed p.0, eqb-true (length c.buffer) c.capacity p.1))
-                h,
-            append-nil c.buffer,
-          )
+          let both = and_parts (not (some rs) || (not c.closed && eqb (length c.buffer) 0)) (not (some ss) || (not c.closed && eqb (length c.buffer) c.capacity)) t in
+          let empty = stuck (some rs) c.closed (length c.buffer) 0 both.0 in
+          (joining_settles rs ss c (λ w. ((empty w).0, nil_from_length c.buffer (empty w).1)) (stuck (some ss) c.closed (length c.buffer) c.capacity both.1) h, append-nil c.buffer)
       go false t = (h, append-nil c.buffer)
 
 pub first_in_first_out : {E X : Type 0} → FirstInFirstOut E X
@@ -83,9 +70,11 @@ first_in_first_out f z (d ∷ ds) c h =
     let s = in_order f z d c h in
     let r = first_in_first_out f z ds (done f z d c) s.0 in (
       r.0,
-      sym (append_assoc c.buffer (accepts f z d c) (all_accepted f z ds (done f z d c)))
-          ∙ ap (λ l. l ++ all_accepted f z ds (done f z d c)) s.1
-          ∙ append_assoc (gives f z d c) (done f z d c).buffer (all_accepted f z ds (done f z d c))
-          ∙ ap (λ l. gives f z d c ++ l) r.1
-          ∙ sym (append_assoc (gives f z d c) (all_received f z ds (done f z d c)) (all_done f z ds (done f z d c)).buffer),
+      cc (
+        s.1,
+        r.1,
+        append_assoc c.buffer (accepts f z d c) (all_accepted f z ds (done f z d c)),
+        append_assoc (gives f z d c) (done f z d c).buffer (all_accepted f z ds (done f z d c)),
+        append_assoc (gives f z d c) (all_received f z ds (done f z d c)) (all_done f z ds (done f z d c)).buffer,
+      ),
     )
