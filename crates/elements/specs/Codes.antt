@@ -3,7 +3,6 @@ use Rattle.std.specs.Prelude.{ℕ, ◌+◌, ◌^◌, ◌<◌, pos, Some, None, O
 use Rattle.std.specs.Int.{int_rem_euclid}
 use Rattle.elements.specs.declared.value.Value.{Value}
 use Rattle.elements.specs.declared.handle.Handle.{Handle}
-use Rattle.elements.specs.declared.handle.Handle.TheVariants.{Nil, Channel}
 
 abbrev pub value_zero : Value
 value_zero = record { number = pos 0 }
@@ -13,21 +12,18 @@ abbrev pub value_code : Value → ℕ
 value_code v = unsigned_abs (int_rem_euclid v.number (pos (2 ^ 32)))
 
 abbrev pub nil_handle : Handle
-nil_handle = Nil
+nil_handle = record { channel = None }
 
 abbrev pub handle_to : ℕ → Handle
-handle_to n = Channel n
+handle_to n = record { channel = Some n }
 
 abbrev pub handle_number : Handle → Option ℕ
-handle_number Nil = None
-handle_number (Channel n) = Some n
+handle_number h = h.channel
 
 -- 0 for nil, and else the number + 1
 abbrev pub handle_code : Handle → ℕ
-handle_code Nil = 0
-handle_code (Channel n) = n + 1
+handle_code h = elim h.channel [ None ↦ 0 | Some n ↦ n + 1 ]
 
 -- a number has 16 bits
 abbrev pub HandleHolds : Handle → Type 0
-HandleHolds Nil = Unit {0}
-HandleHolds (Channel n) = n < 2 ^ 16
+HandleHolds h = elim h.channel as (λ _. Type 0) [ None ↦ Unit {0} | Some n ↦ n < 2 ^ 16 ]

@@ -1,12 +1,12 @@
 // What an element kind is.
-ghost use Rattle.std.specs.Prelude.{◌≡◌, ℕ, ◌^◌, ◌<◌, length, ◌==◌, nat_le};
-ghost use Rattle.elements.specs.Same.{Tells};
+ghost use Rattle.std.specs.Prelude.{◌≡◌, ℕ, length, ◌==◌, nat_le};
+ghost use Rattle.elements.specs.Same.{Tells, OneCodeEach};
 
 pub trait Element: Copy {
     // How many cells a bank of this kind has.
     const CELLS: usize;
 
-    ghost size: { ℕ };
+    ghost CELLS: { ℕ };
 
     ghost nought: { Self };
 
@@ -24,27 +24,18 @@ pub trait Element: Copy {
         ensures value { result ≡ coded self }
         ensures held { holds self };
 
-    // `CELLS`, where code generic in the kind can learn what it is.
-    fn cell_count() -> usize
-        ensures { result ≡ size };
-
-    ghost zero_is_held: { holds nought };
-
-    ghost zero_has_code_zero: { coded nought ≡ 0 };
-
-    ghost code_fits: { (x : Self) → holds x → coded x < 2 ^ 32 };
-
-    ghost one_code_one_element: { (x y : Self) → holds x → holds y → coded x ≡ coded y → x ≡ y };
+    ghost laws: { OneCodeEach nought coded holds };
 }
 
 // Whether a bank has all the cells of its kind.
 pub fn enough_cells<E: Element>(bank: &[E]) -> bool
-    ensures { result ≡ nat_le E.size (length bank.now) }
+    ensures { result ≡ nat_le E.CELLS (length bank.now) }
 {
-    E::cell_count() <= bank.len()
+    E::CELLS <= bank.len()
 }
 
-// Whether an element is the zero element: exactly when its code is 0.
+// Whether an element is the zero element: exactly when its code is 0. By codes, here and in `same`: for `==` each kind
+// would have to give an `eq` and prove one more law, that `eq` tells what codes tell.
 pub fn is_zero<E: Element>(e: E) -> bool
     ensures codes { result ≡ (E.coded e == 0) }
     ensures elements { Tells result (e ≡ E.nought) }

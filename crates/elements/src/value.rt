@@ -1,12 +1,12 @@
 // Signed numbers of 32 bits as elements.
-ghost use Rattle.std.specs.Prelude.{pos, FitsSigned};
+ghost use Rattle.std.specs.Prelude.{FitsSigned};
 ghost use Rattle.std.specs.Int.{w32};
 ghost use Rattle.elements.specs.Codes.{value_code, value_zero};
 ghost use Rattle.std.proofs.Common.{rules};
 
 use crate::element::Element;
 
-#[derive(Clone, Copy)]
+#[derive(Clone, Copy, PartialEq, Eq, Debug)]
 pub struct Value {
     pub number: i32,
 }
@@ -14,7 +14,7 @@ pub struct Value {
 impl Element for Value {
     const CELLS: usize = 512;
 
-    ghost size = { 512 };
+    ghost CELLS = { 512 };
 
     ghost nought = { value_zero };
 
@@ -22,13 +22,7 @@ impl Element for Value {
 
     ghost holds = { λ v. FitsSigned w32 v.number };
 
-    ghost zero_is_held = { Prim.search rules };
-
-    ghost zero_has_code_zero = { Prim.search rules };
-
-    ghost code_fits = { Prim.search rules };
-
-    ghost one_code_one_element = { Prim.search rules };
+    ghost laws = { Prim.search rules };
 
     fn zero() -> Value {
         Value { number: 0 }
@@ -36,9 +30,5 @@ impl Element for Value {
 
     fn code(self) -> u32 {
         self.number.cast_unsigned()
-    }
-
-    fn cell_count() -> usize {
-        Self::CELLS
     }
 }

@@ -1,5 +1,5 @@
 // Pairs of bytes as elements.
-ghost use Rattle.std.specs.Prelude.{◌≡◌, ◌+◌, ◌*◌, ◌<◌};
+ghost use Rattle.std.specs.Prelude.{◌<◌};
 ghost use Rattle.maker.specs.Pairs.{no_pair, pair_code};
 ghost use Rattle.std.proofs.Common.{rules};
 
@@ -24,7 +24,7 @@ impl fmt::Display for Pair {
 impl Element for Pair {
     const CELLS: usize = 16;
 
-    ghost size = { 16 };
+    ghost CELLS = { 16 };
 
     ghost nought = { no_pair };
 
@@ -32,13 +32,7 @@ impl Element for Pair {
 
     ghost holds = { λ p. (p.high < 256) × (p.low < 256) };
 
-    ghost zero_is_held = { Prim.search rules };
-
-    ghost zero_has_code_zero = { Prim.search rules };
-
-    ghost code_fits = { Prim.search rules };
-
-    ghost one_code_one_element = { Prim.search rules };
+    ghost laws = { Prim.search rules };
 
     fn zero() -> Pair {
         Pair { high: 0, low: 0 }
@@ -46,10 +40,6 @@ impl Element for Pair {
 
     fn code(self) -> u32 {
         256 * u32::from(self.high) + u32::from(self.low)
-    }
-
-    fn cell_count() -> usize {
-        Self::CELLS
     }
 }
 

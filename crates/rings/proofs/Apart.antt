@@ -4,11 +4,10 @@ use borrow.Rule.Slice.PartMut.{put_mid}
 use Rattle.std.specs.List.{between}
 use Rattle.std.proofs.lemmas.List.{drop-drop, length-replicate}
 use Rattle.std.proofs.lemmas.Slice.{between_is, take-put_mid_below, drop-put_mid}
-use Rattle.rings.specs.declared.ring.Ring.{Ring}
 use Rattle.rings.specs.declared.ring.RingError.{RingError}
 use Rattle.rings.specs.declared.ring.RingError.TheVariants.{ShortBank}
 use Rattle.rings.specs.Contents.{around, contents, cleared}
-use Rattle.rings.specs.Layouts.{layout, covers, held, next_cell}
+use Rattle.rings.specs.Layouts.{Layout, Sound, covers, held, next_cell}
 use Rattle.rings.specs.Answers.{put_answer, stored, wiped}
 use Rattle.rings.specs.Laws.{Apart, LeftAlone}
 use Rattle.rings.proofs.Contents.{between_set_other, around_below}
@@ -27,26 +26,26 @@ between_cleared b c a k z bank fits (inr h) =
     ∙ ap (drop b) (take-put_mid_below a k bank (replicate k z) (b + c) h (omega arith))
     ∙ sym (between_is bank b (b + c))
 
-alone_put : {X : Type 0} (r s : Ring) (bank : List X) (e : X) → Apart (layout r) (layout s)
-    → (a : Result (Unit {0}) RingError) → put_answer (layout r) bank ≡ a → held (layout s) (stored a (layout r) e bank) ≡ held (layout s) bank
-alone_put r s bank e apart (Err why) q = refl
-alone_put r s bank e apart (Ok u) q =
-    let room : r.count < r.capacity = (can_put (layout r) bank u r.within r.counted q).room in
-    let first : r.first < r.capacity = omega (arith, r.within) in
-    let p : around r.first r.count r.capacity < r.capacity = around_below r.first r.count r.capacity first r.counted in
-    let out : (next_cell (layout r) < s.base) ⊎ (s.base + s.capacity ≤ next_cell (layout r)) =
+alone_put : {X : Type 0} (r s : Layout) (bank : List X) (e : X) → Sound r → Apart r s
+    → (a : Result (Unit {0}) RingError) → put_answer r bank ≡ a → held s (stored a r e bank) ≡ held s bank
+alone_put r s bank e k apart (Err why) q = refl
+alone_put r s bank e k apart (Ok u) q =
+    let room : r.count < r.capacity = (can_put r bank u k.within k.counted q).room in
+    let first : r.first < r.capacity = omega (arith, k.within) in
+    let p : around r.first r.count r.capacity < r.capacity = around_below r.first r.count r.capacity first k.counted in
+    let out : (next_cell r < s.base) ⊎ (s.base + s.capacity ≤ next_cell r) =
     elim apart [ inl h ↦ inl (omega arith) | inr h ↦ inr (omega arith) ] in
-    ap (λ part. contents part s.first s.count) (between_set_other s.base s.capacity bank (next_cell (layout r)) e out)
+    ap (λ part. contents part s.first s.count) (between_set_other s.base s.capacity bank (next_cell r) e out)
 
-alone_clear : {X : Type 0} (r s : Ring) (bank : List X) (e : X) → Apart (layout r) (layout s)
-    → (b : Bool) → covers (layout r) bank ≡ b → held (layout s) (wiped (cond b (Ok tt) (Err ShortBank)) (layout r) e bank) ≡ held (layout s) bank
+alone_clear : {X : Type 0} (r s : Layout) (bank : List X) (e : X) → Apart r s
+    → (b : Bool) → covers r bank ≡ b → held s (wiped (cond b (Ok tt) (Err ShortBank)) r e bank) ≡ held s bank
 alone_clear r s bank e apart false q = refl
 alone_clear r s bank e apart true q =
     ap (λ part. contents part s.first s.count)
     (between_cleared s.base s.capacity r.base r.capacity e bank (omega (arith, leb-true)) apart)
 
-pub stays_apart : {X : Type 0} (r s : Ring) (bank : List X) (e : X) → Apart (layout r) (layout s) → LeftAlone (layout r) (layout s) bank e
-stays_apart r s bank e apart = record {
-  by_put = alone_put r s bank e apart (put_answer (layout r) bank) refl;
-  by_clear = alone_clear r s bank e apart (covers (layout r) bank) refl;
+pub stays_apart : {X : Type 0} (r s : Layout) (bank : List X) (e : X) → Sound r → Apart r s → LeftAlone r s bank e
+stays_apart r s bank e k apart = record {
+  by_put = alone_put r s bank e k apart (put_answer r bank) refl;
+  by_clear = alone_clear r s bank e apart (covers r bank) refl;
 }

@@ -1,11 +1,11 @@
 -- How many elements a ring holds, and what is held after a put and after a take.
 use Rattle.std.proofs.Common.{◌≡◌, ℕ, zero, suc, ◌+◌, ◌-◌, ◌<◌, ◌≤◌, List, [], ◌∷◌, ◌++◌, length, get_or, take, drop, set, sym, refl, ap, ◌∙◌, inl, inr, arith}
 use Rattle.std.specs.List.{between}
-use Rattle.std.proofs.lemmas.List.{length-take, drop-set-add}
+use Rattle.std.proofs.lemmas.List.{length-take, get_or-take, get_or-drop, drop-set-add}
 use Rattle.std.proofs.lemmas.Bool.{cases_lt}
 use Rattle.rings.specs.Contents.{around, contents}
 use Rattle.rings.specs.Layouts.{Layout, held, next_cell, one_more, one_less}
-use Rattle.rings.proofs.Contents.{length_part, length_contents, contents_put, contents_take}
+use Rattle.rings.proofs.Contents.{around_below, length_part, length_contents, get_or_contents, contents_put, contents_take}
 
 -- nothing is held where nothing is counted
 pub contents_none : {X : Type 0} (part : List X) (first : ℕ) → contents part first 0 ≡ []
@@ -53,9 +53,24 @@ held_put l bank e fits starts room =
 
 -- what is held is the oldest and then what is held without it
 pub held_take : {X : Type 0} (l : Layout) (bank : List X) (x : X) → l.base + l.capacity ≤ length bank → l.first ≤ l.capacity - 1 → 0 < l.count → l.count ≤ l.capacity
-    → held l bank ≡ get_or (between l.base (l.base + l.capacity) bank) l.first x ∷ held (one_less l) bank
+    → held l bank ≡ get_or bank (l.base + l.first) x ∷ held (one_less l) bank
 held_take l bank x fits starts some below =
     let part = between l.base (l.base + l.capacity) bank in
     let n : length part ≡ l.capacity = length_part l.base l.capacity bank fits in
     contents_take part l.first l.count x (omega arith) some (omega arith)
     ∙ ap (λ k. get_or part l.first x ∷ contents part (around l.first 1 k) (l.count - 1)) n
+    ∙ ap (λ y. y ∷ held (one_less l) bank)
+    (get_or-take (l.base + l.capacity - l.base) (drop l.base bank) l.first x (omega arith) ∙ get_or-drop l.base bank l.first x)
+
+-- the cell of the bank that has the element at a place
+pub get_or_held : {X : Type 0} (l : Layout) (bank : List X) (n : ℕ) (d : X) → l.base + l.capacity ≤ length bank → l.first ≤ l.capacity - 1 → n < l.count → l.count ≤ l.capacity
+    → get_or (held l bank) n d ≡ get_or bank (l.base + around l.first n l.capacity) d
+get_or_held l bank n d fits starts some below =
+    let part = between l.base (l.base + l.capacity) bank in
+    let s : length part ≡ l.capacity = length_part l.base l.capacity bank fits in
+    let f : l.first < l.capacity = omega arith in
+    let h : around l.first n l.capacity < l.capacity = around_below l.first n l.capacity f (omega arith) in
+    get_or_contents part l.first l.count n d (omega arith) (omega arith) some
+    ∙ ap (λ k. get_or part (around l.first n k) d) s
+    ∙ get_or-take (l.base + l.capacity - l.base) (drop l.base bank) (around l.first n l.capacity) d (omega arith)
+    ∙ get_or-drop l.base bank (around l.first n l.capacity) d

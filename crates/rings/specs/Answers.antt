@@ -51,8 +51,3 @@ emptied r l = cond (is_ok r) (fresh l.base l.capacity) l
 
 abbrev pub wiped : {X : Type 0} → Result (Unit {0}) RingError → Layout → X → List X → List X
 wiped r l z bank = cond (is_ok r) (cleared l.base l.capacity z bank) bank
-
--- what holds where a call is refused
-abbrev pub WhenRefused : {X : Type 0} → Result X RingError → Type 0 → Type 0
-WhenRefused (Ok x) P = Unit {0}
-WhenRefused (Err why) P = P

@@ -1,8 +1,7 @@
 -- What holds of a ring after any list of puts and takes.
 use Rattle.std.specs.Prelude.{◌≡◌, ℕ, ◌+◌, ◌%◌, ◌≤◌, true, cond, ◌⊎◌, List, [], ◌∷◌, ◌++◌, length, is_ok, Ok, Err, Result, slice_set}
-use Rattle.rings.specs.declared.ring.Ring.{Ring}
 use Rattle.rings.specs.declared.ring.RingError.{RingError}
-use Rattle.rings.specs.Layouts.{Layout, layout, fresh, covers, held, next_cell}
+use Rattle.rings.specs.Layouts.{Layout, Sound, fresh, covers, held, next_cell}
 use Rattle.rings.specs.Answers.{put_answer, take_answer, clear_answer, grown, shrunk, stored, wiped}
 
 pub data Operation (X : Type 0) : Type 0 where
@@ -92,7 +91,7 @@ KeepsTurns X = (base capacity : ℕ) (cs : List (Call X))
 
 -- a ring holds as many elements as it counts
 abbrev pub CountsHeld : Type 0 → Type 0
-CountsHeld X = (r : Ring) (bank : List X) → covers (layout r) bank ≡ true → length (held (layout r) bank) ≡ (layout r).count
+CountsHeld X = (l : Layout) (bank : List X) → Sound l → covers l bank ≡ true → length (held l bank) ≡ l.count
 
 -- two rings without a cell in common
 abbrev pub Apart : Layout → Layout → Type 0
@@ -104,4 +103,4 @@ pub record LeftAlone {X : Type 0} (l m : Layout) (bank : List X) (e : X) : Type 
   pub by_clear : held m (wiped (clear_answer l bank) l e bank) ≡ held m bank
 
 abbrev pub StaysApart : Type 0 → Type 0
-StaysApart X = (r s : Ring) (bank : List X) (e : X) → Apart (layout r) (layout s) → LeftAlone (layout r) (layout s) bank e
+StaysApart X = (l m : Layout) (bank : List X) (e : X) → Sound l → Apart l m → LeftAlone l m bank e

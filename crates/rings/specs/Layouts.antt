@@ -1,7 +1,6 @@
 -- Where a ring lies in its bank, and what the two together stand for.
-use Rattle.std.specs.Prelude.{ℕ, ◌+◌, ◌-◌, ◌^◌, Bool, cond, ◌&&◌, List, length, Some, None, Option, nat_le, nat_lt}
+use Rattle.std.specs.Prelude.{ℕ, ◌+◌, ◌-◌, ◌^◌, ◌<◌, ◌≤◌, Bool, cond, ◌&&◌, List, length, Some, None, Option, nat_le, nat_lt}
 use Rattle.std.specs.List.{between}
-use Rattle.rings.specs.declared.ring.Ring.{Ring}
 use Rattle.rings.specs.Contents.{around, contents}
 
 -- the numbers of a ring
@@ -11,8 +10,12 @@ pub record Layout : Type 0 where
   pub first : ℕ
   pub count : ℕ
 
-abbrev pub layout : Ring → Layout
-layout r = record { base = r.base; capacity = r.capacity; first = r.first; count = r.count }
+-- what is true of the numbers of every ring
+pub record Sound (l : Layout) : Type 0 where
+  pub inside : l.base + l.capacity < 2 ^ 64
+  pub small : l.capacity ≤ 64
+  pub within : l.first ≤ l.capacity - 1
+  pub counted : l.count ≤ l.capacity
 
 -- a ring that holds nothing yet
 abbrev pub fresh : ℕ → ℕ → Layout
@@ -24,10 +27,6 @@ can_lie base capacity = nat_le capacity 64 && nat_lt (base + capacity) (2 ^ 64)
 
 abbrev pub made : ℕ → ℕ → Option Layout
 made base capacity = cond (can_lie base capacity) (Some (fresh base capacity)) None
-
-abbrev pub made_layout : Option Ring → Option Layout
-made_layout None = None
-made_layout (Some r) = Some (layout r)
 
 -- whether the bank has all cells of the ring
 abbrev pub covers : {X : Type 0} → Layout → List X → Bool

@@ -2,10 +2,8 @@
 #![tactic(auto)]
 
 mod calls;
-mod cells;
 mod laws;
 mod numbers;
-mod parts;
 mod ring;
 
 pub use laws::{rings_count_held, rings_keep_order, rings_keep_turns, rings_stay_apart};

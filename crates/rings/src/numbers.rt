@@ -1,6 +1,6 @@
 // A ring's numbers.
 ghost use Rattle.std.specs.Prelude.{◌≡◌};
-ghost use Rattle.rings.specs.Layouts.{layout, made, made_layout};
+ghost use Rattle.rings.specs.Layouts.{made};
 
 use crate::ring::Ring;
 
@@ -10,7 +10,7 @@ const MOST: usize = 64;
 impl Ring {
     // A ring that holds nothing, on `capacity` cells from `base` on: at most 64, and none past the largest number.
     pub fn new(base: usize, capacity: usize) -> Option<Ring>
-        ensures { made_layout result ≡ made base capacity }
+        ensures { result ≡ made base capacity }
     {
         if capacity > MOST || base > usize::MAX - capacity {
             return None;
@@ -25,21 +25,21 @@ impl Ring {
 
     // The first of its cells.
     pub fn base(&self) -> usize
-        ensures { result ≡ (layout self.now).base }
+        ensures { result ≡ self.now.base }
     {
         self.base
     }
 
     // How many cells it has.
     pub fn capacity(&self) -> usize
-        ensures { result ≡ (layout self.now).capacity }
+        ensures { result ≡ self.now.capacity }
     {
         self.capacity
     }
 
     // How many elements it holds.
     pub fn count(&self) -> usize
-        ensures { result ≡ (layout self.now).count }
+        ensures { result ≡ self.now.count }
     {
         self.count
     }

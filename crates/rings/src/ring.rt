@@ -1,5 +1,5 @@
 // A ring: where its part of a bank lies, and which of the part's cells are in use.
-ghost use Rattle.std.specs.Prelude.{◌+◌, ◌-◌, ◌^◌, ◌<◌, ◌≤◌};
+use std::marker::Model;
 
 // The ring has the `capacity` cells from `base` on. Its oldest element lies `first` cells after `base`, and it holds
 // `count` elements, in cell after cell, the first cell following the last.
@@ -9,14 +9,23 @@ pub struct Ring {
     pub(crate) capacity: usize,
     pub(crate) first: usize,
     pub(crate) count: usize,
-    ghost inside: { base + capacity < 2 ^ 64 },
-    ghost small: { capacity ≤ 64 },
-    ghost within: { first ≤ capacity - 1 },
-    ghost counted: { count ≤ capacity },
+}
+
+// Clauses see its numbers.
+impl Model for Ring {
+    ghost use Rattle.rings.specs.Layouts.{Layout, Sound};
+
+    ghost Value = { Layout };
+
+    ghost view = { λ r. record { base = r.base; capacity = r.capacity; first = r.first; count = r.count } };
+
+    ghost invariant = { λ r. Sound (record { base = r.base; capacity = r.capacity; first = r.first; count = r.count }) };
+
+    ghost inverse = { λ l. record { base = l.base; capacity = l.capacity; first = l.first; count = l.count } };
 }
 
 // Why a call was refused.
-#[derive(Clone, Copy)]
+#[derive(Clone, Copy, PartialEq, Eq, Debug)]
 pub enum RingError {
     // The bank ends before the ring does.
     ShortBank,
