@@ -36,34 +36,34 @@ taken_if f z true false [] None e s h = cc
 taken_if f z false closed xs o e s h = cc
 
 abbrev Kept : ℕ → ℕ → Filling → Type 0
-Kept base capacity t = Turned base capacity t.puts t.takes t.channel.layout
+Kept base capacity t = Turned base capacity t.puts t.takes t.channel.ring
 
 module _ {E X : Type 0} (f : X → E) (z : E) (base capacity : ℕ) (t : Filling) (k : Turn E X) (h : Kept base capacity t) where
-  has_room : sent (met t.channel k) ≡ Ok Buffered → t.channel.layout.count < t.channel.layout.capacity
+  has_room : sent (met t.channel k) ≡ Ok Buffered → t.channel.ring.count < t.channel.ring.capacity
   has_room q =
-      let yes = buffered_if (covers t.channel.layout k.bank) t.channel.closed (ltb (length (held t.channel.layout k.bank)) t.channel.layout.capacity) _ q in
-      let fits : t.channel.layout.base + t.channel.layout.capacity ≤ length k.bank = omega (arith, leb-true, yes.0) in
-      let room : length (held t.channel.layout k.bank) < t.channel.layout.capacity = omega (arith, ltb-true, yes.1) in
-      let n = length_held t.channel.layout k.bank fits h.starts h.below in
+      let yes = buffered_if (covers t.channel.ring k.bank) t.channel.closed (ltb (length (held t.channel.ring k.bank)) t.channel.ring.capacity) _ q in
+      let fits : t.channel.ring.base + t.channel.ring.capacity ≤ length k.bank = omega (arith, leb-true, yes.0) in
+      let room : length (held t.channel.ring k.bank) < t.channel.ring.capacity = omega (arith, ltb-true, yes.1) in
+      let n = length_held t.channel.ring k.bank fits h.starts h.below in
       omega arith
 
-  has_some : (e : E) (s : Option (Entry X)) → got f z (met t.channel k) ≡ Ok (Taken e s) → 0 < t.channel.layout.count
+  has_some : (e : E) (s : Option (Entry X)) → got f z (met t.channel k) ≡ Ok (Taken e s) → 0 < t.channel.ring.count
   has_some e s q =
-      let n = taken_if f z (covers t.channel.layout k.bank) t.channel.closed (held t.channel.layout k.bank) _ e s q in
-      let m = held_most t.channel.layout k.bank in
+      let n = taken_if f z (covers t.channel.ring k.bank) t.channel.closed (held t.channel.ring k.bank) _ e s q in
+      let m = held_most t.channel.ring k.bank in
       omega arith
 
   kept_sent : (e : E) (r : Result (Sent X) SendError) → sent (met t.channel k) ≡ r → Kept base capacity (filled_sent t e r)
   kept_sent e (Ok (Handed w)) q = h
-  kept_sent e (Ok Buffered) q = turned_put t.channel.layout h (has_room q)
+  kept_sent e (Ok Buffered) q = turned_put t.channel.ring h (has_room q)
   kept_sent e (Err why) q = h
 
-  taken_kept : (e : E) (s : Option (Entry X)) → got f z (met t.channel k) ≡ Ok (Taken e s) → Turned base capacity t.puts (t.takes + 1) (one_less t.channel.layout)
-  taken_kept e s q = turned_take t.channel.layout h (has_some e s q)
+  taken_kept : (e : E) (s : Option (Entry X)) → got f z (met t.channel k) ≡ Ok (Taken e s) → Turned base capacity t.puts (t.takes + 1) (one_less t.channel.ring)
+  taken_kept e s q = turned_take t.channel.ring h (has_some e s q)
 
   kept_got : (r : Result (Received E X) ReceiveError) → got f z (met t.channel k) ≡ r → Kept base capacity (filled_got f z t r)
   kept_got (Ok (Taken e None)) q = taken_kept e None q
-  kept_got (Ok (Taken e (Some w))) q = turned_put (one_less t.channel.layout) (taken_kept e (Some w) q) (omega (arith, has_some e (Some w) q, h.below))
+  kept_got (Ok (Taken e (Some w))) q = turned_put (one_less t.channel.ring) (taken_kept e (Some w) q) (omega (arith, has_some e (Some w) q, h.below))
   kept_got (Ok (Passed e w)) q = h
   kept_got (Ok Drained) q = h
   kept_got (Err why) q = h
@@ -73,19 +73,19 @@ module _ {E X : Type 0} (f : X → E) (z : E) (base capacity : ℕ) (t : Filling
   kept_by receiving = kept_got (got f z (met t.channel k)) refl
   kept_by shutting = h
 
-  cells_at_sent : (e : E) (r : Result (Sent X) SendError) → cells_sent r t.channel.layout e k.bank ≡ placed base capacity t.puts (buffered_sent e r) k.bank
+  cells_at_sent : (e : E) (r : Result (Sent X) SendError) → cells_sent r t.channel.ring e k.bank ≡ placed base capacity t.puts (buffered_sent e r) k.bank
   cells_at_sent e (Ok (Handed w)) = refl
-  cells_at_sent e (Ok Buffered) = ap (λ n. set k.bank n e) (next_is t.channel.layout h)
+  cells_at_sent e (Ok Buffered) = ap (λ n. set k.bank n e) (next_is t.channel.ring h)
   cells_at_sent e (Err why) = refl
 
-  cells_at_got : (r : Result (Received E X) ReceiveError) → got f z (met t.channel k) ≡ r → cells_got f z r t.channel.layout k.bank ≡ placed base capacity t.puts (buffered_got f z r) k.bank
+  cells_at_got : (r : Result (Received E X) ReceiveError) → got f z (met t.channel k) ≡ r → cells_got f z r t.channel.ring k.bank ≡ placed base capacity t.puts (buffered_got f z r) k.bank
   cells_at_got (Ok (Taken e None)) q = refl
-  cells_at_got (Ok (Taken e (Some w))) q = ap (λ n. set k.bank n (offered f z w)) (next_is (one_less t.channel.layout) (taken_kept e (Some w) q))
+  cells_at_got (Ok (Taken e (Some w))) q = ap (λ n. set k.bank n (offered f z w)) (next_is (one_less t.channel.ring) (taken_kept e (Some w) q))
   cells_at_got (Ok (Passed e w)) q = refl
   cells_at_got (Ok Drained) q = refl
   cells_at_got (Err why) q = refl
 
-  cells_at : (a : Act E) → cells_by f z t.channel.layout (met t.channel k) a k.bank ≡ placed base capacity t.puts (buffered_by f z (met t.channel k) a) k.bank
+  cells_at : (a : Act E) → cells_by f z t.channel.ring (met t.channel k) a k.bank ≡ placed base capacity t.puts (buffered_by f z (met t.channel k) a) k.bank
   cells_at (sending e) = cells_at_sent e (sent (met t.channel k))
   cells_at receiving = cells_at_got (got f z (met t.channel k)) refl
   cells_at shutting = refl

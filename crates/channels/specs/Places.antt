@@ -9,7 +9,8 @@ use Rattle.channels.specs.declared.channel.SendError.{SendError}
 use Rattle.channels.specs.declared.channel.Received.{Received}
 use Rattle.channels.specs.declared.channel.Received.TheVariants.{Taken, Handed as Passed, Drained}
 use Rattle.channels.specs.declared.channel.ReceiveError.{ReceiveError}
-use Rattle.channels.specs.Seen.{Told, Laid, told, shut}
+use Rattle.channels.specs.declared.channel.Channel.{Channel}
+use Rattle.channels.specs.Seen.{Told, told, shut}
 use Rattle.channels.specs.Rules.{sent, cells_sent, laid_sent}
 use Rattle.channels.specs.Receives.{got, cells_got, laid_got}
 use Rattle.channels.specs.Orders.{refill}
@@ -27,7 +28,7 @@ pub record Turn (E X : Type 0) : Type 0 where
   pub act : Act E
 
 -- what the channel stands for then
-abbrev pub met : {E X : Type 0} → Laid → Turn E X → Told E X
+abbrev pub met : {E X : Type 0} → Channel → Turn E X → Told E X
 met c t = told c t.bank t.receivers t.senders
 
 -- the element that came into the buffer by an answer, if one did
@@ -55,7 +56,7 @@ cells_by f z l c shutting bank = bank
 
 -- a channel, and how many elements it ever buffered and took out of its buffer
 pub record Filling : Type 0 where
-  pub channel : Laid
+  pub channel : Channel
   pub puts : ℕ
   pub takes : ℕ
 
@@ -85,11 +86,11 @@ filled f z t [] = t
 filled f z t (k ∷ ks) = filled f z (filled_by f z t (met t.channel k) k.act) ks
 
 abbrev pub unfilled : ℕ → ℕ → ℕ → Filling
-unfilled number base capacity = record { channel = record { number = number; layout = fresh base capacity; closed = false }; puts = 0; takes = 0 }
+unfilled number base capacity = record { channel = record { number = number; ring = fresh base capacity; closed = false }; puts = 0; takes = 0 }
 
 -- after any list of acts on a new channel: the next one writes what it buffers there, and nothing else
 abbrev pub NthCell : Type 0 → Type 0 → Type 0
 NthCell E X =
     (f : X → E) (z : E) (number base capacity : ℕ) (ks : List (Turn E X)) (k : Turn E X)
-    → cells_by f z (filled f z (unfilled number base capacity) ks).channel.layout (met (filled f z (unfilled number base capacity) ks).channel k) k.act k.bank
+    → cells_by f z (filled f z (unfilled number base capacity) ks).channel.ring (met (filled f z (unfilled number base capacity) ks).channel k) k.act k.bank
     ≡ placed base capacity (filled f z (unfilled number base capacity) ks).puts (buffered_by f z (met (filled f z (unfilled number base capacity) ks).channel k) k.act) k.bank

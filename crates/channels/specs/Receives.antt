@@ -7,7 +7,8 @@ use Rattle.channels.specs.declared.channel.Received.{Received}
 use Rattle.channels.specs.declared.channel.Received.TheVariants.{Taken, Handed, Drained}
 use Rattle.channels.specs.declared.channel.ReceiveError.{ReceiveError}
 use Rattle.channels.specs.declared.channel.ReceiveError.TheVariants.{ShortBank, Empty}
-use Rattle.channels.specs.Seen.{Told, Laid}
+use Rattle.channels.specs.declared.channel.Channel.{Channel}
+use Rattle.channels.specs.Seen.{Told}
 use Rattle.channels.specs.Rules.{offered, parted}
 
 -- with an empty buffer: the first queued sender's element, or nothing
@@ -56,12 +57,12 @@ cells_got f z (Ok Drained) l bank = bank
 cells_got f z (Err why) l bank = bank
 
 -- its ring has one element less, and one more where a queued sender's element was buffered
-abbrev pub laid_filled : {X : Type 0} → Option (Entry X) → Laid → Laid
+abbrev pub laid_filled : {X : Type 0} → Option (Entry X) → Channel → Channel
 laid_filled None c = c
-laid_filled (Some w) c = record c { layout = one_more c.layout }
+laid_filled (Some w) c = record c { ring = one_more c.ring }
 
-abbrev pub laid_got : {E X : Type 0} → Result (Received E X) ReceiveError → Laid → Laid
-laid_got (Ok (Taken e sender)) c = laid_filled sender (record c { layout = one_less c.layout })
+abbrev pub laid_got : {E X : Type 0} → Result (Received E X) ReceiveError → Channel → Channel
+laid_got (Ok (Taken e sender)) c = laid_filled sender (record c { ring = one_less c.ring })
 laid_got (Ok (Handed e w)) c = c
 laid_got (Ok Drained) c = c
 laid_got (Err why) c = c

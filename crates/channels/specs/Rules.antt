@@ -10,7 +10,8 @@ use Rattle.channels.specs.declared.channel.Sent.{Sent}
 use Rattle.channels.specs.declared.channel.Sent.TheVariants.{Handed, Buffered}
 use Rattle.channels.specs.declared.channel.SendError.{SendError}
 use Rattle.channels.specs.declared.channel.SendError.TheVariants.{ShortBank, Closed, Full}
-use Rattle.channels.specs.Seen.{Told, Laid}
+use Rattle.channels.specs.declared.channel.Channel.{Channel}
+use Rattle.channels.specs.Seen.{Told}
 
 -- the first queued receiver gets the element; else it is buffered, if there is room
 abbrev pub sent_to : {X : Type 0} → Option (Entry X) → Bool → Result (Sent X) SendError
@@ -42,9 +43,9 @@ cells_sent (Ok Buffered) l e bank = slice_set bank (next_cell l) e
 cells_sent (Err why) l e bank = bank
 
 -- the channel as it lies afterwards: its ring has one element more where the element was buffered
-abbrev pub laid_sent : {X : Type 0} → Result (Sent X) SendError → Laid → Laid
+abbrev pub laid_sent : {X : Type 0} → Result (Sent X) SendError → Channel → Channel
 laid_sent (Ok (Handed w)) c = c
-laid_sent (Ok Buffered) c = record c { layout = one_more c.layout }
+laid_sent (Ok Buffered) c = record c { ring = one_more c.ring }
 laid_sent (Err why) c = c
 
 -- the element that a case offers to send

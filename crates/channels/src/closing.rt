@@ -2,7 +2,7 @@
 ghost use Rattle.std.specs.Prelude.{◌≡◌, ◌+◌, ◌-◌, ◌≤◌, ◌++◌, length, is_ok, if◌then◌else◌, vec_len, vec_capacity, nat_le};
 ghost use Rattle.waiting.specs.Lines.{line_of, table_of};
 ghost use Rattle.channels.specs.Closes.{freed as freed_by, without_all, closing};
-ghost use Rattle.channels.specs.Seen.{laid, shut};
+ghost use Rattle.channels.specs.Seen.{shut};
 
 use crate::channel::{Channel, CloseError};
 use waiting::{Entry, Waiting};
@@ -31,7 +31,7 @@ impl Channel {
         freed: &mut Vec<Entry<X>>,
     ) -> Result<usize, CloseError>
         ensures answer { result ≡ closing self.old.closed (nat_le 64 (vec_capacity freed.old - vec_len freed.old)) (length (freed_by self.old.number (line_of waiting.old) (table_of waiting.old))) }
-        ensures channel { laid self.new ≡ (if is_ok result then shut (laid self.old) else laid self.old) }
+        ensures channel { self.new ≡ (if is_ok result then shut self.old else self.old) }
         ensures items { freed.new.items ≡ (if is_ok result then freed.old.items ++ freed_by self.old.number (line_of waiting.old) (table_of waiting.old) else freed.old.items) }
         ensures line { line_of waiting.new ≡ (if is_ok result then without_all (freed_by self.old.number (line_of waiting.old) (table_of waiting.old)) (line_of waiting.old) else line_of waiting.old) }
         ensures table { table_of waiting.new ≡ table_of waiting.old }

@@ -1,7 +1,6 @@
 // Making a channel, and what can be asked of it.
 ghost use Rattle.std.specs.Prelude.{◌≡◌};
-ghost use Rattle.rings.specs.Layouts.{layout};
-ghost use Rattle.channels.specs.Seen.{laid_of, new_channel};
+ghost use Rattle.channels.specs.Seen.{new_channel};
 
 use crate::channel::Channel;
 use rings::Ring;
@@ -9,7 +8,7 @@ use rings::Ring;
 impl Channel {
     // An open channel of that number, whose buffer has the `capacity` cells from `base` on.
     pub fn new(number: u32, base: usize, capacity: usize) -> Option<Channel>
-        ensures { laid_of result ≡ new_channel number base capacity }
+        ensures { result ≡ new_channel number base capacity }
     {
         let ring = Ring::new(base, capacity)?;
         Some(Channel {
@@ -27,14 +26,14 @@ impl Channel {
 
     // How many elements it can buffer.
     pub fn capacity(&self) -> usize
-        ensures { result ≡ (layout self.now.ring).capacity }
+        ensures { result ≡ self.now.ring.capacity }
     {
         self.ring.capacity()
     }
 
     // How many elements it buffers.
     pub fn count(&self) -> usize
-        ensures { result ≡ (layout self.now.ring).count }
+        ensures { result ≡ self.now.ring.count }
     {
         self.ring.count()
     }

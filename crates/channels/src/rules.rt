@@ -2,8 +2,8 @@
 ghost use Rattle.std.specs.Prelude.{◌≡◌, ◌<◌, true, List, ◌++◌, length};
 ghost use Rattle.waiting.specs.Lines.{line_of, table_of};
 ghost use Rattle.waiting.specs.Queues.{queue, first as first_of, released};
-ghost use Rattle.rings.specs.Layouts.{layout, covers, held};
-ghost use Rattle.channels.specs.Seen.{seen, laid};
+ghost use Rattle.rings.specs.Layouts.{covers, held};
+ghost use Rattle.channels.specs.Seen.{seen};
 ghost use Rattle.channels.specs.Rules.{sent, after_sent, line_sent, cells_sent, laid_sent, offered};
 ghost use Rattle.channels.specs.Receives.{got, got_from, after_got, line_got, cells_got, laid_got, parted_by, refilled, cells_filled, laid_filled};
 ghost use Rattle.waiting.specs.declared.wish.Side.TheVariants.{Receivers, Senders};
@@ -11,7 +11,6 @@ ghost use Rattle.waiting.specs.Laws.{Served};
 
 use crate::channel::{Carries, Channel, ReceiveError, Received, SendError, Sent};
 use elements::Element;
-use rings::RingError;
 use waiting::{Entry, Side, Waiting, Wish};
 
 // The element that a queued sender offers.
@@ -36,8 +35,8 @@ impl Channel {
         ensures after { seen self.new bank.new (line_of waiting.new) (table_of waiting.new) ≡ after_sent result e (seen self.old bank.old (line_of waiting.old) (table_of waiting.old)) }
         ensures line { line_of waiting.new ≡ line_sent result (line_of waiting.old) }
         ensures table { table_of waiting.new ≡ table_of waiting.old }
-        ensures cells { bank.new ≡ cells_sent result (layout self.old.ring) e bank.old }
-        ensures channel { laid self.new ≡ laid_sent result (laid self.old) }
+        ensures cells { bank.new ≡ cells_sent result self.old.ring e bank.old }
+        ensures channel { self.new ≡ laid_sent result self.old }
     {
         if !self.ring.lies_in(bank) {
             return Err(SendError::ShortBank);
@@ -58,14 +57,14 @@ impl Channel {
         waiting: &mut Waiting<X>,
         bank: &mut [E],
     ) -> Option<Entry<X>>
-        requires there { covers (layout self.old.ring) bank.old ≡ true }
-        requires room { length (held (layout self.old.ring) bank.old) < self.old.ring.capacity }
+        requires there { covers self.old.ring bank.old ≡ true }
+        requires room { length (held self.old.ring bank.old) < self.old.ring.capacity }
         ensures answer { result ≡ first_of (queue Senders self.old.number (line_of waiting.old) (table_of waiting.old)) }
-        ensures after { seen self.new bank.new (line_of waiting.new) (table_of waiting.new) ≡ parted_by result (refilled X.carried E.nought result (held (layout self.old.ring) bank.old)) (seen self.old bank.old (line_of waiting.old) (table_of waiting.old)) }
+        ensures after { seen self.new bank.new (line_of waiting.new) (table_of waiting.new) ≡ parted_by result (refilled X.carried E.nought result (held self.old.ring bank.old)) (seen self.old bank.old (line_of waiting.old) (table_of waiting.old)) }
         ensures line { line_of waiting.new ≡ released result (line_of waiting.old) }
         ensures table { table_of waiting.new ≡ table_of waiting.old }
-        ensures cells { bank.new ≡ cells_filled X.carried E.nought result (layout self.old.ring) bank.old }
-        ensures channel { laid self.new ≡ laid_filled result (laid self.old) }
+        ensures cells { bank.new ≡ cells_filled X.carried E.nought result self.old.ring bank.old }
+        ensures channel { self.new ≡ laid_filled result self.old }
     {
         let sender = waiting.release_first(Side::Senders, self.number)?;
         let _ = self.ring.put(bank, offered_by(sender));
@@ -99,12 +98,14 @@ impl Channel {
         ensures after { seen self.new bank.new (line_of waiting.new) (table_of waiting.new) ≡ after_got X.carried E.nought result (seen self.old bank.old (line_of waiting.old) (table_of waiting.old)) }
         ensures line { line_of waiting.new ≡ line_got result (line_of waiting.old) }
         ensures table { table_of waiting.new ≡ table_of waiting.old }
-        ensures cells { bank.new ≡ cells_got X.carried E.nought result (layout self.old.ring) bank.old }
-        ensures channel { laid self.new ≡ laid_got result (laid self.old) }
+        ensures cells { bank.new ≡ cells_got X.carried E.nought result self.old.ring bank.old }
+        ensures channel { self.new ≡ laid_got result self.old }
     {
+        if !self.ring.lies_in(bank) {
+            return Err(ReceiveError::ShortBank);
+        }
         match self.ring.take(bank) {
             Ok(e) => Ok(Received::Taken(e, self.refill(waiting, bank))),
-            Err(RingError::ShortBank) => Err(ReceiveError::ShortBank),
             Err(_) => self.receive_unbuffered(waiting),
         }
     }

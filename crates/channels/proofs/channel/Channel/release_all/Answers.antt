@@ -1,4 +1,4 @@
-use Rattle.std.proofs.Common.{◌≡◌, [], ◌++◌, length, vec_items, sym, ap, ◌∙◌, arith}
+use Rattle.std.proofs.Common.{length, vec_items, sym, ap, ◌∙◌, arith}
 use Rattle.std.proofs.lemmas.List.{append_assoc, append-nil, length-append}
 use Rattle.waiting.specs.Lines.{line_of, table_of}
 use Rattle.channels.specs.Closes.{freed}
