@@ -34,7 +34,7 @@ abbrev pub done : {E X : Type 0} → (X → E) → E → Deed E X → Told E X �
 done f z (sends e) c = after_sent (sent c) e c
 done f z receives c = after_got f z (got f z c) c
 done f z (joins rs ss) c = cond (may_wait rs ss c) (joined_by rs ss c) c
-done f z (leaves r) c = parted r c.buffer c
+done f z (leaves r) c = parted r c
 done f z closes c = closed_off c
 
 -- the elements that the channel accepts by an answer, and those that somebody receives

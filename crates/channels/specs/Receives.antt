@@ -24,18 +24,14 @@ got_in f z (e ∷ es) sender closed = Ok (Taken e sender)
 abbrev pub got : {E X : Type 0} → (X → E) → E → Told E X → Result (Received E X) ReceiveError
 got f z c = cond c.there (got_in f z c.buffer (first c.senders) c.closed) (Err ShortBank)
 
--- the buffer when a queued sender's element, if there is one, has come into it
-abbrev pub refilled : {E X : Type 0} → (X → E) → E → Option (Entry X) → List E → List E
-refilled f z None buffer = buffer
-refilled f z (Some w) buffer = buffer ++ (offered f z w ∷ [])
-
-abbrev pub parted_by : {E X : Type 0} → Option (Entry X) → List E → Told E X → Told E X
-parted_by None buffer c = record c { buffer = buffer }
-parted_by (Some w) buffer c = parted w.routine buffer c
+-- the channel when the first queued sender's element, if there is one, has come into its buffer
+abbrev pub after_filled : {E X : Type 0} → (X → E) → E → Option (Entry X) → Told E X → Told E X
+after_filled f z None c = c
+after_filled f z (Some w) c = parted w.routine (record c { buffer = c.buffer ++ (offered f z w ∷ []) })
 
 abbrev pub after_got : {E X : Type 0} → (X → E) → E → Result (Received E X) ReceiveError → Told E X → Told E X
-after_got f z (Ok (Taken e sender)) c = parted_by sender (refilled f z sender (drop 1 c.buffer)) c
-after_got f z (Ok (Handed e w)) c = parted w.routine c.buffer c
+after_got f z (Ok (Taken e sender)) c = after_filled f z sender (record c { buffer = drop 1 c.buffer })
+after_got f z (Ok (Handed e w)) c = parted w.routine c
 after_got f z (Ok Drained) c = c
 after_got f z (Err why) c = c
 

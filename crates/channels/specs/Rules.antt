@@ -28,11 +28,11 @@ line_sent (Ok Buffered) line = line
 line_sent (Err why) line = line
 
 -- the channel afterwards: who was served is in none of its queues, and the others keep their order
-abbrev pub parted : {E X : Type 0} → ℕ → List E → Told E X → Told E X
-parted r buffer c = record c { buffer = buffer; receivers = others r c.receivers; senders = others r c.senders }
+abbrev pub parted : {E X : Type 0} → ℕ → Told E X → Told E X
+parted r c = record c { receivers = others r c.receivers; senders = others r c.senders }
 
 abbrev pub after_sent : {E X : Type 0} → Result (Sent X) SendError → E → Told E X → Told E X
-after_sent (Ok (Handed w)) e c = parted w.routine c.buffer c
+after_sent (Ok (Handed w)) e c = parted w.routine c
 after_sent (Ok Buffered) e c = record c { buffer = c.buffer ++ (e ∷ []) }
 after_sent (Err why) e c = c
 

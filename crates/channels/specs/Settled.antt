@@ -29,7 +29,7 @@ ReceivesSettle E X = (f : X → E) (z : E) (c : Told E X) → Settled c → Sett
 
 -- and so does every channel that a routine leaves
 abbrev pub LeavingSettles : Type 0 → Type 0 → Type 0
-LeavingSettles E X = (r : ℕ) (c : Told E X) → Settled c → Settled (parted r c.buffer c)
+LeavingSettles E X = (r : ℕ) (c : Told E X) → Settled c → Settled (parted r c)
 
 -- a routine that joins both queues of a channel with these entries
 abbrev pub joined_by : {E X : Type 0} → List (Entry X) → List (Entry X) → Told E X → Told E X

@@ -5,7 +5,7 @@ ghost use Rattle.waiting.specs.Queues.{queue, first as first_of, released};
 ghost use Rattle.rings.specs.Layouts.{covers, held};
 ghost use Rattle.channels.specs.Seen.{seen};
 ghost use Rattle.channels.specs.Rules.{sent, after_sent, line_sent, cells_sent, laid_sent, offered};
-ghost use Rattle.channels.specs.Receives.{got, got_from, after_got, line_got, cells_got, laid_got, parted_by, refilled, cells_filled, laid_filled};
+ghost use Rattle.channels.specs.Receives.{got, got_from, after_got, line_got, cells_got, laid_got, after_filled, cells_filled, laid_filled};
 ghost use Rattle.waiting.specs.declared.wish.Side.TheVariants.{Receivers, Senders};
 ghost use Rattle.waiting.specs.Laws.{Served};
 
@@ -60,7 +60,7 @@ impl Channel {
         requires there { covers self.old.ring bank.old ≡ true }
         requires room { length (held self.old.ring bank.old) < self.old.ring.capacity }
         ensures answer { result ≡ first_of (queue Senders self.old.number (line_of waiting.old) (table_of waiting.old)) }
-        ensures after { seen self.new bank.new (line_of waiting.new) (table_of waiting.new) ≡ parted_by result (refilled X.carried E.nought result (held self.old.ring bank.old)) (seen self.old bank.old (line_of waiting.old) (table_of waiting.old)) }
+        ensures after { seen self.new bank.new (line_of waiting.new) (table_of waiting.new) ≡ after_filled X.carried E.nought result (seen self.old bank.old (line_of waiting.old) (table_of waiting.old)) }
         ensures line { line_of waiting.new ≡ released result (line_of waiting.old) }
         ensures table { table_of waiting.new ≡ table_of waiting.old }
         ensures cells { bank.new ≡ cells_filled X.carried E.nought result self.old.ring bank.old }
