@@ -1,6 +1,7 @@
 -- The cases of a line, and which of them can go.
 use Rattle.std.specs.Prelude.{ℕ, ◌+◌, ◌*◌, Bool, true, false, cond, ◌||◌, List, [], ◌∷◌, map, length, take, Some, None, Option, nat_lt}
 use Rattle.std.specs.List.{slice_get}
+use Rattle.std.specs.Option.{option_map}
 use Rattle.lines.specs.declared.line.Kind.{Kind}
 use Rattle.lines.specs.declared.line.Kind.TheVariants.{Value as ValueKind, Handle as HandleKind}
 use Rattle.lines.specs.declared.line.Operand.{Operand}
@@ -13,6 +14,7 @@ use Rattle.linking.specs.declared.operation.Exchange.TheVariants.{Send, Receive,
 use Rattle.waiting.specs.declared.wish.Wish.{Wish}
 use Rattle.waiting.specs.declared.wish.Wish.TheVariants as wish
 use Rattle.waiting.specs.declared.wish.Side.TheVariants.{Receivers, Senders}
+use Rattle.waiting.specs.Queues.{Row}
 use Rattle.routines.specs.declared.item.Item.{Item}
 use Rattle.routines.specs.declared.item.Item.TheVariants.{Value, Handle}
 use Rattle.routines.specs.declared.routine.Routine.{Routine}
@@ -77,22 +79,14 @@ channel_for cs x (Named c) = Some c
 channel_for cs x (Held h) = meant cs (handle_number (handle_at x h))
 
 -- ---- what a case waits for: on a nil channel for nothing, and so does the default
-abbrev pub sending : Option ℕ → Item → Wish Item
-sending None e = wish.Nothing
-sending (Some c) e = wish.Send c e
+abbrev pub wish_of : List Channel → Routine → Option (Exchange ℕ) → Option (Wish Item)
+wish_of cs x None = None
+wish_of cs x (Some (Send o v)) = option_map (λ c. wish.Send c (Value (value_at x v))) (channel_for cs x o)
+wish_of cs x (Some (Receive o v w)) = option_map wish.Receive (channel_for cs x o)
+wish_of cs x (Some (SendHandle c h)) = Some (wish.Send c (Handle (handle_at x h)))
+wish_of cs x (Some (ReceiveHandle c h w)) = Some (wish.Receive c)
 
-abbrev pub receiving : Option ℕ → Wish Item
-receiving None = wish.Nothing
-receiving (Some c) = wish.Receive c
-
-abbrev pub wish_of : List Channel → Routine → Option (Exchange ℕ) → Wish Item
-wish_of cs x None = wish.Nothing
-wish_of cs x (Some (Send o v)) = sending (channel_for cs x o) (Value (value_at x v))
-wish_of cs x (Some (Receive o v w)) = receiving (channel_for cs x o)
-wish_of cs x (Some (SendHandle c h)) = wish.Send c (Handle (handle_at x h))
-wish_of cs x (Some (ReceiveHandle c h w)) = wish.Receive c
-
-abbrev pub wishes_of : List Channel → Routine → List Branch → List (Wish Item)
+abbrev pub wishes_of : List Channel → Routine → List Branch → Row Item
 wishes_of cs x bs = map (λ b. wish_of cs x b.exchange) bs
 
 -- ---- when a case can go: its channel is closed, or has room or an element, or another routine waits on the other side.
@@ -101,13 +95,13 @@ abbrev pub some : {A : Type 0} → List A → Bool
 some [] = false
 some (x ∷ xs) = true
 
-abbrev pub can_go : Run → Wish Item → Bool
-can_go run wish.Nothing = false
-can_go run (wish.Send c e) = (channel run c).closed || (nat_lt (length (channel run c).buffer) (channel run c).capacity || some (queued run Receivers c))
-can_go run (wish.Receive c) = (channel run c).closed || (some (channel run c).buffer || some (queued run Senders c))
+abbrev pub can_go : Run → Option (Wish Item) → Bool
+can_go run None = false
+can_go run (Some (wish.Send c e)) = (channel run c).closed || (nat_lt (length (channel run c).buffer) (channel run c).capacity || some (queued run Receivers c))
+can_go run (Some (wish.Receive c)) = (channel run c).closed || (some (channel run c).buffer || some (queued run Senders c))
 
 -- the ready set, as a number: its binary digit k is 1 where case k can go
-abbrev pub ready_set : Run → List (Wish Item) → ℕ
+abbrev pub ready_set : Run → Row Item → ℕ
 ready_set run [] = 0
 ready_set run (w ∷ ws) = cond (can_go run w) 1 0 + 2 * ready_set run ws
 

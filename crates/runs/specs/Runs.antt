@@ -7,11 +7,9 @@ use Rattle.elements.specs.Codes.{value_zero, nil_handle}
 use Rattle.linking.specs.declared.declared.Declared.{Declared}
 use Rattle.linking.specs.declared.operation.Operation.{Operation}
 use Rattle.linking.specs.Programs.{Block, Program}
-use Rattle.waiting.specs.declared.wish.Wish.{Wish}
-use Rattle.waiting.specs.declared.wish.Wish.TheVariants.{Nothing}
 use Rattle.waiting.specs.declared.wish.Entry.{Entry}
 use Rattle.waiting.specs.declared.wish.Side.{Side}
-use Rattle.waiting.specs.Queues.{queue, without}
+use Rattle.waiting.specs.Queues.{Row, queue, without}
 use Rattle.routines.specs.declared.item.Item.{Item}
 use Rattle.routines.specs.declared.routine.Passed.{Passed}
 use Rattle.routines.specs.declared.routine.State.{State}
@@ -26,14 +24,15 @@ pub record Channel : Type 0 where
   pub closed : Bool
   pub buffer : List Item
 
--- line: the routines that wait, the one that has waited longest first; wishes: what each case of theirs waits for.
+-- line: the routines that wait, the one that has waited longest first; wishes: what each case of theirs waits for,
+-- a row for each routine.
 -- Both queues of every channel are read from these two.
 -- turns: the run queue; the routine whose turn it is stands at its front until its turn is done
 pub record Run : Type 0 where
   pub routines : List Routine
   pub channels : List Channel
   pub line : List ℕ
-  pub wishes : List (Wish Item)
+  pub wishes : List (Row Item)
   pub turns : List ℕ
   pub over : Bool
 
@@ -125,4 +124,4 @@ abbrev pub new_channel : Declared → Channel
 new_channel d = record { kind = d.kind; capacity = d.capacity; closed = false; buffer = [] }
 
 abbrev pub started : Program → Run
-started p = record { routines = first_routine p ∷ []; channels = map new_channel p.channels; line = []; wishes = replicate 512 Nothing; turns = 0 ∷ []; over = false }
+started p = record { routines = first_routine p ∷ []; channels = map new_channel p.channels; line = []; wishes = replicate 64 []; turns = 0 ∷ []; over = false }

@@ -35,7 +35,6 @@ as_kind HandleKind e = Handle (as_handle e)
 
 -- the element that a waiting case offers
 abbrev pub offer : Wish Item → Item
-offer wish.Nothing = Value value_zero
 offer (wish.Send c e) = e
 offer (wish.Receive c) = Value value_zero
 
@@ -56,15 +55,14 @@ receive_on run r c [] (w ∷ ws) = record { passed = Received c (offered run c w
 receive_on run r c (e ∷ es) [] = record { passed = Received c e; accepted = None; received = move c e r; stored = None; run = with_buffer c es run }
 receive_on run r c (e ∷ es) (w ∷ ws) = record { passed = Received c e; accepted = move c (offered run c w) w.routine; received = move c e r; stored = Some (c, offered run c w); run = release w.routine w.case (Sent c (offered run c w)) (with_buffer c (es ++ (offered run c w ∷ [])) run) }
 
--- a case that can go, of routine r
-abbrev pub take : Run → ℕ → Wish Item → Taken
-take run r wish.Nothing = record { passed = Broken; accepted = None; received = None; stored = None; run = run }
-take run r (wish.Send c e) = send_on run r c (as_kind (channel run c).kind e) (channel run c).closed (queued run Receivers c)
-take run r (wish.Receive c) = receive_on run r c (channel run c).buffer (queued run Senders c)
+-- a case that can go, of routine r; a case that never goes is not taken
+abbrev pub take : Run → ℕ → Option (Wish Item) → Taken
+take run r None = record { passed = Broken; accepted = None; received = None; stored = None; run = run }
+take run r (Some (wish.Send c e)) = send_on run r c (as_kind (channel run c).kind e) (channel run c).closed (queued run Receivers c)
+take run r (Some (wish.Receive c)) = receive_on run r c (channel run c).buffer (queued run Senders c)
 
 -- ---- closing: a receiver is released with nothing, a sender to break
 abbrev pub dismissed : ℕ → Wish Item → Passed
-dismissed c wish.Nothing = Broken
 dismissed c (wish.Send d e) = Broken
 dismissed c (wish.Receive d) = Drained c
 

@@ -1,59 +1,62 @@
--- A queue as a loop reads it: one case further, and one routine further.
-use Rattle.std.proofs.Common.{◌≡◌, ℕ, ◌+◌, ◌<◌, ◌≤◌, true, false, cond, eqb, List, [], ◌∷◌, ◌++◌, length, get_or, drop, Some, None, sym, refl, ap, ◌∙◌, arith, length-append}
-use Rattle.std.proofs.lemmas.List.{at_drop_more, at_drop_all}
-use Rattle.waiting.specs.declared.wish.Wish.{Wish}
-use Rattle.waiting.specs.declared.wish.Side.{Side}
-use Rattle.waiting.specs.declared.wish.Entry.{Entry}
-use Rattle.waiting.specs.Queues.{stands, places, queue, cases, first, waits}
+-- What `find_map` finds of a chain, and the front of lists that follow one another.
+use Rattle.std.proofs.Common.{◌≡◌, ℕ, zero, suc, ◌+◌, ◌<◌, true, List, [], ◌∷◌, ◌++◌, Some, None, Option, sym, refl, ap, ◌∙◌, subst, arith}
+use Rattle.std.specs.Fn.{Called}
+use Rattle.std.specs.Bool.{IsTrue}
+use Rattle.std.specs.Iterator.{AlwaysYields, Yields}
+use Rattle.std.specs.Iterator.Runs.{Run, SomeRun, YieldsRun, AllItemsGive, IsFirstToGive}
+use Rattle.std.specs.Option.{MatchOption, IfSome, IsSomeAnd}
+use Rattle.std.specs.List.{filter_map, flat_map, cons_option, slice_get}
+use Rattle.std.proofs.lemmas.Iterator.{YieldsList}
+use denote.Param.Members.{Mut}
+use Rattle.waiting.specs.Queues.{first}
 
-module _ {X : Type 0} (s : Side) (c r : ℕ) (ws : List (Wish X)) (i : ℕ) where
-  -- the places from case k on
-  abbrev from : ℕ → List (Entry X)
-  from k = places s c r k (drop k ws)
+module _ {S A B C F : Type 0} (steps : S → Option A → S → Type 0) (v : A → B) (g : Mut F (A × Unit {0}) (Option C)) (h : B → Option C) (f : F)
+    (pure : (x : A) (y : Option C) (q : F) → Called g f (x, tt) y q → (q ≡ f) × (y ≡ h (v x))) where
+  none_found : (xs : List A) (s t u : S) (all : List B) → Yields steps s xs t → steps t None u → AlwaysYields steps v s all → ((k : ℕ) → IfSome (slice_get xs k) (λ x. None ≡ h (v x))) → None ≡ first (filter_map h all)
+  none_found [] s t u [] y e a n = refl
+  none_found [] s t u (b ∷ bs) y e a n = absurd (a.0 u (subst (λ z. steps z None u) (sym y) e))
+  none_found (x ∷ xs) s t u [] y e a n = absurd (a x y.0 y.1)
+  none_found (x ∷ xs) s t u (b ∷ bs) y e a n =
+      let w = a.1 x y.0 y.1 in
+      none_found xs y.0 t u bs y.2 e w.1 (λ k. n (suc k)) ∙ ap (λ o. first (cons_option o (filter_map h bs))) (n 0 ∙ ap h w.0)
 
-  pub place_step : (w : Wish X) → i < length ws → w ≡ get_or ws i w → from i ≡ cond (stands s c w) (record { routine = r; case = i; wish = w } ∷ from (i + 1)) (from (i + 1))
-  place_step w h is = at_drop_more (places s c r i) ws i w h ∙ ap (λ y. places s c r i (y ∷ drop (i + 1) ws)) (sym is)
+  some_found : (i : ℕ) (xs : List A) (s t : S) (all : List B) (z : C) → Yields steps s xs t → AlwaysYields steps v s all → IsSomeAnd (slice_get xs i) (λ x. Some z ≡ h (v x)) → ((k : ℕ) → k < i → IsSomeAnd (slice_get xs k) (λ x. None ≡ h (v x))) → Some z ≡ first (filter_map h all)
+  some_found i [] s t all z y a e n = absurd e
+  some_found i (x ∷ xs) s t [] z y a e n = absurd (a x y.0 y.1)
+  some_found zero (x ∷ xs) s t (b ∷ bs) z y a e n = ap (λ o. first (cons_option o (filter_map h bs))) (e ∙ ap h (a.1 x y.0 y.1).0)
+  some_found (suc i) (x ∷ xs) s t (b ∷ bs) z y a e n =
+      let w = a.1 x y.0 y.1 in
+      some_found i xs y.0 t bs z y.2 w.1 e (λ k l. n (suc k) (omega arith)) ∙ ap (λ o. first (cons_option o (filter_map h bs))) (n 0 (omega arith) ∙ ap h w.0)
 
-  pub place_here : (w : Wish X) → i < length ws → w ≡ get_or ws i w → stands s c w ≡ true → from i ≡ record { routine = r; case = i; wish = w } ∷ from (i + 1)
-  place_here w h is t = place_step w h is ∙ ap (λ b. cond b (record { routine = r; case = i; wish = w } ∷ from (i + 1)) (from (i + 1))) t
+  keeps : (a : A × Unit {0}) (y : Option C) (q : F) → Called g f a y q → q ≡ f
+  keeps a y q k = (pure a.0 y q k).0
 
-  pub place_later : (w : Wish X) → i < length ws → w ≡ get_or ws i w → stands s c w ≡ false → from i ≡ from (i + 1)
-  place_later w h is t = place_step w h is ∙ ap (λ b. cond b (record { routine = r; case = i; wish = w } ∷ from (i + 1)) (from (i + 1))) t
+  each : (o : Option A) → IfSome o (λ x. Called g f (x, tt) None f) → IfSome o (λ x. None ≡ h (v x))
+  each None k = tt
+  each (Some x) k = (pure x None f k).1
 
-  pub place_none : length ws ≤ i → from i ≡ []
-  place_none h = at_drop_all (places s c r i) ws i h
+  here : (z : Option C) (o : Option A) → IsSomeAnd o (λ x. Called g f (x, tt) z f) → IsSomeAnd o (λ x. z ≡ h (v x))
+  here z None k = k
+  here z (Some x) k = (pure x z f k).1
 
--- the front of two lists, one after the other
-pub first_left : {A : Type 0} (xs ys : List A) (x : A) → first xs ≡ Some x → first (xs ++ ys) ≡ Some x
-first_left [] ys x e = let z : ◌≡◌ {A = ℕ} 0 1 = cc in absurd (omega arith)
-first_left (y ∷ xs) ys x e = e
+  -- the first that `find_map` finds
+  pub found : {s : S} {all : List B} (r : Option C) → SomeRun steps s (λ p. MatchOption r (IsTrue p.whole × AllItemsGive p g f None) (λ y. (i : ℕ) × (i < p.len) × (p.len ≡ i + 1) × IsFirstToGive p g f (Some y) None i)) → YieldsList steps v s all → r ≡ first (filter_map h all)
+  unfolding YieldsRun
+  found {s} {all} None d e =
+      let p = d.0 in
+      let end = p.gave.0.2 d.2.0 in
+      none_found p.items p.from p.gave.0.0 end.0 all p.gave.0.1 end.1 (subst (λ z. AlwaysYields steps v z all) (sym d.1) e.runs)
+      (λ k. subst (λ o. IfSome o (λ x. None ≡ h (v x))) (p.gave.1 k) (each (p.at k) (d.2.1 keeps k)))
+  found {s} {all} (Some z) d e =
+      let p = d.0 in
+      let hit = d.2.3 keeps in
+      some_found d.2.0 p.items p.from p.gave.0.0 all z p.gave.0.1 (subst (λ z. AlwaysYields steps v z all) (sym d.1) e.runs)
+      (subst (λ o. IsSomeAnd o (λ x. Some z ≡ h (v x))) (p.gave.1 d.2.0) (here (Some z) (p.at d.2.0) hit.0))
+      (λ k l. subst (λ o. IsSomeAnd o (λ x. None ≡ h (v x))) (p.gave.1 k) (here None (p.at k) (hit.1 k l)))
 
-pub first_right : {A : Type 0} (xs ys : List A) → first xs ≡ None → first (xs ++ ys) ≡ first ys
-first_right [] ys e = refl
-first_right (y ∷ xs) ys e = let z : ◌≡◌ {A = ℕ} 0 1 = cc in absurd (omega arith)
-
-module _ {X : Type 0} (s : Side) (c : ℕ) (line : List ℕ) (table : List (Wish X)) (i : ℕ) where
-  pub queue_step : i < length line → queue s c (drop i line) table ≡ places s c (get_or line i 0) 0 (cases (get_or line i 0) table) ++ queue s c (drop (i + 1) line) table
-  queue_step h = at_drop_more (λ l. queue s c l table) line i 0 h
-
-  pub queue_none : length line ≤ i → queue s c (drop i line) table ≡ []
-  queue_none h = at_drop_all (λ l. queue s c l table) line i h
-
-  pub front_here : (e : Entry X) → i < length line → Some e ≡ first (places s c (get_or line i 0) 0 (cases (get_or line i 0) table)) → first (queue s c (drop i line) table) ≡ Some e
-  front_here e h f = ap first (queue_step h) ∙ first_left (places s c (get_or line i 0) 0 (cases (get_or line i 0) table)) _ e (sym f)
-
-  pub front_later : i < length line → None ≡ first (places s c (get_or line i 0) 0 (cases (get_or line i 0) table)) → first (queue s c (drop i line) table) ≡ first (queue s c (drop (i + 1) line) table)
-  front_later h f = ap first (queue_step h) ∙ first_right (places s c (get_or line i 0) 0 (cases (get_or line i 0) table)) _ (sym f)
-
-  pub length_step : i < length line → length (queue s c (drop i line) table) ≡ length (places s c (get_or line i 0) 0 (cases (get_or line i 0) table)) + length (queue s c (drop (i + 1) line) table)
-  length_step h = ap length (queue_step h) ∙ length-append (places s c (get_or line i 0) 0 (cases (get_or line i 0) table)) (queue s c (drop (i + 1) line) table)
-
-module _ (r : ℕ) (line : List ℕ) (i : ℕ) where
-  pub waits_here : i < length line → eqb (get_or line i 0) r ≡ true → waits r (drop i line) ≡ true
-  waits_here h e = at_drop_more (waits r) line i 0 h ∙ ap (λ b. cond b true (waits r (drop (i + 1) line))) e
-
-  pub waits_later : i < length line → eqb (get_or line i 0) r ≡ false → waits r (drop i line) ≡ waits r (drop (i + 1) line)
-  waits_later h e = at_drop_more (waits r) line i 0 h ∙ ap (λ b. cond b true (waits r (drop (i + 1) line))) e
-
-  pub waits_none : length line ≤ i → waits r (drop i line) ≡ false
-  waits_none h = at_drop_all (waits r) line i h
+-- the first of the firsts is the first of all
+pub first_of_firsts : {A B : Type 0} (f : A → List B) (xs : List A) → first (filter_map (λ x. first (f x)) xs) ≡ first (flat_map f xs)
+first_of_firsts f [] = refl
+first_of_firsts {A} {B} f (x ∷ xs) =
+    let ih = first_of_firsts f xs in
+    elim (f x) as (λ (l : List B). first (cons_option (first l) (filter_map (λ x. first (f x)) xs)) ≡ first (l ++ flat_map f xs)) [ [] ↦ ih | y ∷ ys ↦ refl ]

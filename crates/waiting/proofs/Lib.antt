@@ -1,7 +1,5 @@
 -- The lemmas of the crate.
 pub mod Fronts
-pub mod Tables
+pub mod Lines
 pub mod Orders
 pub mod Turns
-pub mod States
-pub mod Crowds

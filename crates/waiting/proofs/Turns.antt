@@ -1,49 +1,27 @@
 -- Who is ahead in the line is served first.
-use Rattle.std.proofs.Common.{◌≡◌, ℕ, ◌+◌, ◌*◌, ◌≤◌, true, false, cond, not, eqb, List, [], ◌∷◌, ◌++◌, length, Some, None, Option, sym, refl, ap, ◌∙◌, subst, ⊎_elim, arith}
-use Rattle.std.proofs.lemmas.Bool.{cases_Bool, cases_eq, eqb-true, ne_eqb, and_parts, true≢false}
+use Rattle.std.proofs.Common.{◌≡◌, ℕ, ◌+◌, ◌<◌, true, false, cond, not, ◌||◌, eqb, List, [], ◌∷◌, ◌++◌, length, Some, None, Option, sym, refl, ap, ◌∙◌, subst, ⊎_elim, arith, length-set}
+use Rattle.std.specs.List.{cons_option}
+use Rattle.std.proofs.lemmas.Bool.{cases_Bool, cases_eq, eqb-true, eqb-false, ne_eqb, eq-eqb, and_parts, true≢false}
+use Rattle.std.proofs.lemmas.List.Folds.{list_any-append}
+use Rattle.std.proofs.lemmas.Map.Views.{any-filter_same}
 use Rattle.waiting.specs.declared.wish.Wish.{Wish}
 use Rattle.waiting.specs.declared.wish.Side.{Side}
 use Rattle.waiting.specs.declared.wish.Entry.{Entry}
-use Rattle.waiting.specs.Queues.{stands, places, queue, cases, first, waits, without, written, released}
+use Rattle.waiting.specs.Queues.{Row, stands, places, queue, cases, first, waits, without, written, released}
+use Rattle.waiting.specs.Lines.{State}
 use Rattle.waiting.specs.Laws.{among, others, may_join}
-use Rattle.waiting.specs.Runs.{Step, joins, leaves, releases, State, step, run, remains, ahead, fronts, EarlierIsAhead, FirstComeFirstServed}
-use Rattle.waiting.proofs.Orders.{queue_without, queue_joined, may_join_parts}
-use Rattle.waiting.proofs.Tables.{length_written}
-
-among_append : {X : Type 0} (r : ℕ) (xs ys : List (Entry X)) → among r (xs ++ ys) ≡ cond (among r xs) true (among r ys)
-among_append r [] ys = refl
-among_append r (x ∷ xs) ys =
-    let ih = among_append r xs ys in
-    elim (eqb x.routine r) as (λ b. cond b true (among r (xs ++ ys)) ≡ cond (cond b true (among r xs)) true (among r ys))
-    [ true ↦ refl | false ↦ ih ]
+use Rattle.waiting.specs.Runs.{Step, joins, leaves, releases, step, run, remains, ahead, fronts, EarlierIsAhead, FirstComeFirstServed}
+use Rattle.waiting.proofs.Lines.{or_false, waits_without}
+use Rattle.waiting.proofs.Orders.{entry, queue_without, queue_joined, may_join_parts}
 
 -- whoever is not r stays among the others
 among_other : {X : Type 0} (a r : ℕ) → (r ≡ a → ⊥) → (es : List (Entry X)) → among a (others r es) ≡ among a es
-among_other a r ne [] = refl
-among_other a r ne (e ∷ es) =
-    let ih = among_other a r ne es in
-    ⊎_elim
-    (λ (h : eqb e.routine r ≡ true).
-    let na : eqb e.routine a ≡ false = ne_eqb e.routine a (λ f. ne (sym (eqb-true e.routine r h) ∙ f)) in
-    ap (λ b. among a (cond (not b) (e ∷ others r es) (others r es))) h
-    ∙ ih
-    ∙ sym (ap (λ b. cond b true (among a es)) na))
-    (λ (h : eqb e.routine r ≡ false).
-    ap (λ b. among a (cond (not b) (e ∷ others r es) (others r es))) h
-    ∙ ap (λ b. cond (eqb e.routine a) true b) ih)
-    (cases_Bool (eqb e.routine r))
+among_other {X} a r ne es =
+    any-filter_same (λ (e : Entry X). eqb e.routine a) (λ e. not (eqb e.routine r)) true
+    (λ e h. ap not (ne_eqb e.routine r (λ f. ne (sym f ∙ eqb-true e.routine a h)))) es
 
-waits_without : (r : ℕ) (line : List ℕ) → waits r (without r line) ≡ false
-waits_without r [] = refl
-waits_without r (q ∷ line) =
-    let ih = waits_without r line in
-    ⊎_elim
-    (λ (h : eqb q r ≡ true). ap (λ b. waits r (cond (not b) (q ∷ without r line) (without r line))) h ∙ ih)
-    (λ (h : eqb q r ≡ false).
-    ap (λ b. waits r (cond (not b) (q ∷ without r line) (without r line))) h
-    ∙ ap (λ b. cond b true (waits r (without r line))) h
-    ∙ ih)
-    (cases_Bool (eqb q r))
+among_append : {X : Type 0} (r : ℕ) (xs ys : List (Entry X)) → among r (xs ++ ys) ≡ (among r xs || among r ys)
+among_append {X} r xs ys = list_any-append (λ (e : Entry X). eqb e.routine r) xs ys
 
 module _ (a b q : ℕ) (line : List ℕ) where
   ahead_here : eqb q a ≡ true → ahead a b (q ∷ line) ≡ true
@@ -76,15 +54,13 @@ ahead_push a b r (q ∷ line) h =
 waits_ahead : (a b : ℕ) (line : List ℕ) → waits a line ≡ true → waits b line ≡ false → ahead a b line ≡ true
 waits_ahead a b [] w n = absurd (true≢false (sym w))
 waits_ahead a b (q ∷ line) w n =
+    let p = or_false (eqb b q) (waits b line) n in
     ⊎_elim
-    (λ (e : eqb q a ≡ true). ahead_here a b q line e)
-    (λ (e : eqb q a ≡ false).
-    let later : waits a line ≡ true = sym (ap (λ t. cond t true (waits a line)) e) ∙ w in
-    ⊎_elim
-    (λ (f : eqb q b ≡ true). absurd (true≢false (sym (ap (λ t. cond t true (waits b line)) f) ∙ n)))
-    (λ (f : eqb q b ≡ false). ahead_later a b q line e f (waits_ahead a b line later (sym (ap (λ t. cond t true (waits b line)) f) ∙ n)))
-    (cases_Bool (eqb q b)))
-    (cases_Bool (eqb q a))
+    (λ (e : q ≡ a). ahead_here a b q line (eq-eqb q a e))
+    (λ (ne : q ≡ a → ⊥).
+    let later : waits a line ≡ true = sym (ap (λ t. t || waits a line) (ne_eqb a q (λ e. ne (sym e)))) ∙ w in
+    ahead_later a b q line (ne_eqb q a ne) (ne_eqb q b (λ e. eqb-false b q p.0 (sym e))) (waits_ahead a b line later p.1))
+    (cases_eq q a)
 
 pub earlier_is_ahead : EarlierIsAhead
 earlier_is_ahead a b line w n = ahead_push a b b line (waits_ahead a b line w n)
@@ -110,39 +86,30 @@ ahead_without a b r ne (q ∷ line) h =
 -- past entries that are not b's
 front_past : {X : Type 0} (b : ℕ) (xs ys : List (Entry X)) → among b xs ≡ false → (xs ≡ [] → fronts b (first ys) ≡ false) → fronts b (first (xs ++ ys)) ≡ false
 front_past b [] ys n h = h refl
-front_past b (x ∷ xs) ys n h =
-    ⊎_elim
-    (λ (e : eqb x.routine b ≡ true). absurd (true≢false (sym (ap (λ t. cond t true (among b xs)) e) ∙ n)))
-    (λ (e : eqb x.routine b ≡ false). e)
-    (cases_Bool (eqb x.routine b))
+front_past b (x ∷ xs) ys n h = (or_false (eqb x.routine b) (among b xs) n).0
 
 module _ {X : Type 0} (s : Side) (c : ℕ) where
-  strange : (q r k : ℕ) (ws : List (Wish X)) → eqb q r ≡ false → among r (places s c q k ws) ≡ false
+  strange : (q r k : ℕ) (ws : Row X) → eqb q r ≡ false → among r (places s c q k ws) ≡ false
   strange q r k [] e = refl
-  strange q r k (w ∷ ws) e =
+  strange q r k (None ∷ ws) e = strange q r (k + 1) ws e
+  strange q r k (Some w ∷ ws) e =
       let ih = strange q r (k + 1) ws e in
-      elim (stands s c w) as (λ b. among r (cond b (record { routine = q; case = k; wish = w } ∷ places s c q (k + 1) ws) (places s c q (k + 1) ws)) ≡ false)
-      [ true ↦ ap (λ b. cond b true (among r (places s c q (k + 1) ws))) e ∙ ih | false ↦ ih ]
+      elim (stands s c w) as (λ b. among r (cons_option (cond b (Some (entry s c q k w)) None) (places s c q (k + 1) ws)) ≡ false)
+      [ true ↦ ap (λ b. b || among r (places s c q (k + 1) ws)) e ∙ ih | false ↦ ih ]
 
   -- a routine without a place has none wherever it stands in the line
-  placeless : (a : ℕ) (t : List (Wish X)) (line : List ℕ) → places s c a 0 (cases a t) ≡ [] → among a (queue s c line t) ≡ false
+  placeless : (a : ℕ) (t : List (Row X)) (line : List ℕ) → places s c a 0 (cases a t) ≡ [] → among a (queue s c line t) ≡ false
   placeless a t [] h = refl
   placeless a t (q ∷ line) h =
-      let ih = placeless a t line h in
-      let both = among_append a (places s c q 0 (cases q t)) (queue s c line t) in
-      ⊎_elim
-      (λ (e : q ≡ a).
-      both
-      ∙ ap (λ l. cond (among a l) true (among a (queue s c line t))) (ap (λ n. places s c n 0 (cases n t)) e ∙ h)
-      ∙ ih)
-      (λ (ne : q ≡ a → ⊥).
-      both
-      ∙ ap (λ b. cond b true (among a (queue s c line t))) (strange q a 0 (cases q t) (ne_eqb q a ne))
-      ∙ ih)
-      (cases_eq q a)
+      among_append a (places s c q 0 (cases q t)) (queue s c line t)
+      ∙ ap (λ b. b || among a (queue s c line t)) (⊎_elim
+      (λ (e : q ≡ a). ap (among a) (ap (λ n. places s c n 0 (cases n t)) e ∙ h))
+      (λ (ne : q ≡ a → ⊥). strange q a 0 (cases q t) (ne_eqb q a ne))
+      (cases_eq q a))
+      ∙ placeless a t line h
 
   -- while a is ahead and stands in the queue, b is not its front
-  front_ahead : (a b : ℕ) → (a ≡ b → ⊥) → (t : List (Wish X)) (line : List ℕ) → ahead a b line ≡ true → among a (queue s c line t) ≡ true → fronts b (first (queue s c line t)) ≡ false
+  front_ahead : (a b : ℕ) → (a ≡ b → ⊥) → (t : List (Row X)) (line : List ℕ) → ahead a b line ≡ true → among a (queue s c line t) ≡ true → fronts b (first (queue s c line t)) ≡ false
   front_ahead a b ne t [] h m = refl
   front_ahead a b ne t (q ∷ line) h m =
       let both = among_append a (places s c q 0 (cases q t)) (queue s c line t) in
@@ -154,22 +121,22 @@ module _ {X : Type 0} (s : Side) (c : ℕ) where
       absurd (true≢false
       (sym m
       ∙ both
-      ∙ ap (λ l. cond (among a l) true (among a (queue s c line t))) z
+      ∙ ap (λ l. among a l || among a (queue s c line t)) z
       ∙ placeless a t line (ap (λ n. places s c n 0 (cases n t)) (sym e) ∙ z)))))
       (λ (d : q ≡ a → ⊥).
       let na : eqb q a ≡ false = ne_eqb q a d in
       let p = ahead_rest a b q line na h in
       let rest : among a (queue s c line t) ≡ true =
-      sym (both ∙ ap (λ b. cond b true (among a (queue s c line t))) (strange q a 0 (cases q t) na)) ∙ m in
+      sym (both ∙ ap (λ b. b || among a (queue s c line t)) (strange q a 0 (cases q t) na)) ∙ m in
       front_past b (places s c q 0 (cases q t)) (queue s c line t) (strange q b 0 (cases q t) p.0)
       (λ z. front_ahead a b ne t line p.1 rest))
       (cases_eq q a)
 
   -- a is ahead of b, and stands in the queue
   abbrev Holds : ℕ → ℕ → State X → Type 0
-  Holds a b st = (length st.table ≡ 512) × (ahead a b st.line ≡ true) × (among a (queue s c st.line st.table) ≡ true)
+  Holds a b st = (length st.table ≡ 64) × (ahead a b st.line ≡ true) × (among a (queue s c st.line st.table) ≡ true)
 
-  left_holds : (a b r : ℕ) (line : List ℕ) (t : List (Wish X)) → waits a (without r line) ≡ true → Holds a b (record { line = line; table = t }) → Holds a b (record { line = without r line; table = t })
+  left_holds : (a b r : ℕ) (line : List ℕ) (t : List (Row X)) → waits a (without r line) ≡ true → Holds a b (record { line = line; table = t }) → Holds a b (record { line = without r line; table = t })
   left_holds a b r line t w h =
       ⊎_elim
       (λ (e : r ≡ a). absurd (true≢false (sym w ∙ ap (λ n. waits n (without r line)) (sym e) ∙ waits_without r line)))
@@ -177,27 +144,26 @@ module _ {X : Type 0} (s : Side) (c : ℕ) where
       (h.0, ahead_without a b r ne line h.1, ap (among a) (queue_without s c r line t) ∙ among_other a r ne (queue s c line t) ∙ h.2))
       (cases_eq r a)
 
-  released_holds : (a b : ℕ) (o : Option (Entry X)) (line : List ℕ) (t : List (Wish X)) → waits a (released o line) ≡ true → Holds a b (record { line = line; table = t }) → Holds a b (record { line = released o line; table = t })
+  released_holds : (a b : ℕ) (o : Option (Entry X)) (line : List ℕ) (t : List (Row X)) → waits a (released o line) ≡ true → Holds a b (record { line = line; table = t }) → Holds a b (record { line = released o line; table = t })
   released_holds a b None line t w h = h
   released_holds a b (Some e) line t w h = left_holds a b e.routine line t w h
 
-  joined_holds : (a b r : ℕ) (ws : List (Wish X)) (st : State X) → Holds a b st → Holds a b (step (joins r ws) st)
+  joined_holds : (a b r : ℕ) (ws : Row X) (st : State X) → Holds a b st → Holds a b (step (joins r ws) st)
   joined_holds a b r ws st h =
+      let after : State X = record { line = st.line ++ r ∷ []; table = written r ws st.table } in
       ⊎_elim
       (λ (e : may_join r (length ws) st.line ≡ true).
       let p = may_join_parts r (length ws) st.line e in
-      let room : 8 * r + 8 ≤ length st.table = omega (arith, p.0, h.0) in
-      let after : State X = record { line = st.line ++ r ∷ []; table = written r ws st.table } in
+      let room : r < length st.table = omega (arith, p.0, h.0) in
       let new : Holds a b after = (
-        length_written r ws st.table room ∙ h.0,
+        length-set st.table r ws ∙ h.0,
         ahead_push a b r st.line h.1,
-        ap (among a) (queue_joined s c r ws st.table st.line room p.2 p.1)
+        ap (among a) (queue_joined s c r ws st.table st.line room p.2)
             ∙ among_append a (queue s c st.line st.table) (places s c r 0 ws)
-            ∙ ap (λ b. cond b true (among a (places s c r 0 ws))) h.2,
+            ∙ ap (λ b. b || among a (places s c r 0 ws)) h.2,
       ) in
       subst (λ v. Holds a b (cond v after st)) (sym e) new)
-      (λ (e : may_join r (length ws) st.line ≡ false).
-      subst (λ v. Holds a b (cond v (record { line = st.line ++ r ∷ []; table = written r ws st.table }) st)) (sym e) h)
+      (λ (e : may_join r (length ws) st.line ≡ false). subst (λ v. Holds a b (cond v after st)) (sym e) h)
       (cases_Bool (may_join r (length ws) st.line))
 
   step_holds : (a b : ℕ) (e : Step X) (st : State X) → waits a (step e st).line ≡ true → Holds a b st → Holds a b (step e st)

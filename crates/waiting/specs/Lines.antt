@@ -1,14 +1,12 @@
--- What a waiting line stands for: the routines in order, and the table of their cases.
-use Rattle.std.specs.Prelude.{ℕ, List, vec_items}
-use Rattle.waiting.specs.declared.wish.Wish.{Wish}
-use Rattle.waiting.specs.declared.line.Waiting.{Waiting}
-use Rattle.waiting.specs.Runs.{State}
+-- What a waiting line stands for, as contracts see it.
+use Rattle.std.specs.Prelude.{ℕ, List, [], replicate}
+use Rattle.waiting.specs.Queues.{Row}
 
-abbrev pub line_of : {X : Type 0} → Waiting X → List ℕ
-line_of w = vec_items w.line
+-- the routines that wait, the one that has waited longest first, and the table of cases, a row for each routine
+pub record State (X : Type 0) : Type 0 where
+  pub line : List ℕ
+  pub table : List (Row X)
 
-abbrev pub table_of : {X : Type 0} → Waiting X → List (Wish X)
-table_of w = vec_items w.wishes
-
-abbrev pub state_of : {X : Type 0} → Waiting X → State X
-state_of w = record { line = line_of w; table = table_of w }
+-- nobody waits: 64 routines without cases
+abbrev pub nobody : {X : Type 0} → State X
+nobody = record { line = []; table = replicate 64 [] }

@@ -1,21 +1,16 @@
 -- Whole runs: routines join, leave and are released, in any order.
 use Rattle.std.specs.Prelude.{◌≡◌, ℕ, Bool, true, false, cond, ◌&&◌, List, [], ◌∷◌, ◌++◌, length, Some, None, Option, ◌==◌, ◌≢◌}
-use Rattle.waiting.specs.declared.wish.Wish.{Wish}
 use Rattle.waiting.specs.declared.wish.Side.{Side}
 use Rattle.waiting.specs.declared.wish.Entry.{Entry}
-use Rattle.waiting.specs.Queues.{queue, first, waits, without, written, released}
+use Rattle.waiting.specs.Queues.{Row, queue, first, waits, without, written, released}
+use Rattle.waiting.specs.Lines.{State}
 use Rattle.waiting.specs.Laws.{among, may_join}
 
 -- a call that changes the line
 pub data Step (X : Type 0) : Type 0 where
-  joins : ℕ → List (Wish X) → Step X
+  joins : ℕ → Row X → Step X
   leaves : ℕ → Step X
   releases : Side → ℕ → Step X
-
--- the line and the table of cases
-pub record State (X : Type 0) : Type 0 where
-  pub line : List ℕ
-  pub table : List (Wish X)
 
 -- what the calls join, leave and release_first make of it
 abbrev pub step : {X : Type 0} → Step X → State X → State X
@@ -50,5 +45,5 @@ EarlierIsAhead = (a b : ℕ) (line : List ℕ) → waits a line ≡ true → wai
 abbrev pub FirstComeFirstServed : Type 0 → Type 0
 FirstComeFirstServed X =
     (s : Side) (c a b : ℕ) (es : List (Step X)) (st : State X)
-    → length st.table ≡ 512 → (a ≢ b) → ahead a b st.line ≡ true → among a (queue s c st.line st.table) ≡ true
+    → length st.table ≡ 64 → (a ≢ b) → ahead a b st.line ≡ true → among a (queue s c st.line st.table) ≡ true
     → remains a es st ≡ true → fronts b (first (queue s c (run es st).line (run es st).table)) ≡ false

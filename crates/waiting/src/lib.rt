@@ -5,9 +5,8 @@ mod cases;
 mod laws;
 mod line;
 mod queues;
-mod strike;
 mod wish;
 
 pub use laws::queues_keep_order;
 pub use line::Waiting;
-pub use wish::{Entry, Side, Wish};
+pub use wish::{Entry, Queue, Side, Wish};

@@ -1,17 +1,24 @@
 // The waiting line as data.
-ghost use Rattle.std.specs.Prelude.{◌≡◌, ◌≤◌, true, vec_len, vec_capacity};
-ghost use Rattle.waiting.specs.Queues.{orderly};
-
 use crate::wish::Wish;
+use std::marker::Model;
 
-// The routines that wait, the one that has waited longest first, and a table of their cases:
-// cell 8 * r + k is case k of routine r. No queue is kept: each is read from these two.
+// The routines that wait, the one that has waited longest first, and a table of their cases: a row for each routine,
+// with room for 8, so that who joins needs no memory. No queue is kept: each is read from these two.
 #[derive(Drop)]
 pub struct Waiting<X> {
     pub(crate) line: Vec<u32>,
-    pub(crate) wishes: Vec<Wish<X>>,
-    ghost whole: { vec_len wishes ≡ 512 },
-    ghost roomy: { 64 ≤ vec_capacity line },
-    ghost few: { vec_len line ≤ 64 },
-    ghost once: { orderly 64 line.items ≡ true },
+    pub(crate) table: Vec<Vec<Option<Wish<X>>>>,
+}
+
+impl<X> Model for Waiting<X> {
+    ghost use Rattle.std.specs.Prelude.{◌≡◌, ◌≤◌, map, vec_items, vec_len, vec_capacity};
+    ghost use Rattle.std.specs.List.{All};
+    ghost use Rattle.waiting.specs.Lines.{State};
+    ghost use Rattle.waiting.specs.Queues.{Orderly};
+
+    ghost Value = { State X };
+
+    ghost view = { λ w. record { line = w.line.items; table = map vec_items w.table.items } };
+
+    ghost invariant = { λ w. Orderly 64 w.line.items × (64 ≤ vec_capacity w.line) × (vec_len w.table ≡ 64) × All (λ row. (vec_len row ≤ 8) × (8 ≤ vec_capacity row)) w.table.items };
 }

@@ -1,99 +1,132 @@
 // Joining the line, leaving it, and the queues that are read from it.
-ghost use Rattle.std.specs.Prelude.{◌≡◌, [], ◌∷◌, ◌++◌, length, replicate, IfOk, if◌then◌else◌};
-ghost use Rattle.waiting.specs.declared.wish.Wish.TheVariants.{Nothing};
-ghost use Rattle.waiting.specs.Lines.{line_of, table_of, state_of};
-ghost use Rattle.waiting.specs.Queues.{queue, first as first_of, waits as is_waiting, without, written, released};
+ghost use Rattle.std.specs.Prelude.{◌≡◌, ◌≤◌, [], length, map, replicate, vec_items, vec_len, vec_capacity, IfOk};
+ghost use Rattle.std.specs.List.{All};
+ghost use Rattle.waiting.specs.Lines.{nobody};
+ghost use Rattle.waiting.specs.Queues.{queue, first as first_of, waits as is_waiting, Orderly, cases, without};
 ghost use Rattle.waiting.specs.Laws.{may_join, Absent, Joined, Parted, Served};
 ghost use Rattle.waiting.specs.Runs.{step, joins, leaves, releases};
 
-use crate::cases::{blank, cases_of, count_places, first_place, write_cases};
 use crate::line::Waiting;
-use crate::strike::strike;
-use crate::wish::{Entry, Side, Wish};
+use crate::wish::{Entry, Queue, Wish};
 use std::alloc::{AllocError, Global};
+
+// Writes a routine's cases into its row.
+fn lay<X: Copy>(row: &mut Vec<Option<Wish<X>>>, wishes: &[Option<Wish<X>>])
+    requires { length wishes.now ≤ vec_capacity row.old }
+    ensures items { row.new.items ≡ wishes.now }
+    ensures len { vec_len row.new ≡ length wishes.now }
+    ensures room { vec_capacity row.new ≡ vec_capacity row.old }
+{
+    row.clear();
+    for wish in wishes {
+        row.push_reserved(*wish);
+    }
+}
+
+// Takes the routine out of the line, and leaves the others in their order.
+fn strike(line: &mut Vec<u32>, routine: u32)
+    ensures items { line.new.items ≡ without routine line.old.items }
+    ensures room { vec_capacity line.new ≡ vec_capacity line.old }
+{
+    line.retain(|r| *r != routine);
+}
+
+// A table of 64 empty rows, with room for 8 cases in each.
+fn blank<X: Copy>(heap: Global) -> Result<Vec<Vec<Option<Wish<X>>>>, AllocError>
+    ensures { IfOk result (λ t. (map vec_items t.items ≡ replicate 64 []) × (vec_len t ≡ 64) × All (λ row. (vec_len row ≤ 8) × (8 ≤ vec_capacity row)) t.items) }
+{
+    let mut table = Vec::with_capacity(heap, 64)?;
+    for _k in 0..64_usize {
+        table.push_reserved(Vec::with_capacity(heap, 8)?);
+    }
+    Ok(table)
+}
 
 impl<X: Copy> Waiting<X> {
     // A line in which nobody waits, with room for 64 routines of 8 cases.
     pub fn new(heap: Global) -> Result<Waiting<X>, AllocError>
-        ensures { IfOk result (λ w. (line_of w ≡ []) × (table_of w ≡ replicate 512 Nothing)) }
+        ensures { IfOk result (λ w. w ≡ nobody) }
     {
         let line = Vec::with_capacity(heap, 64)?;
-        let wishes = blank(heap)?;
-        Ok(Waiting { line, wishes })
+        let table = blank(heap)?;
+        Ok(Waiting { line, table })
+    }
+
+    // How many routines wait.
+    pub fn len(&self) -> usize
+        ensures is { result ≡ length self.now.line }
+        ensures few { result ≤ 64 }
+        ensures once { Orderly 64 self.now.line }
+        ensures whole { length self.now.table ≡ 64 }
+    {
+        self.line.len()
     }
 
     // Whether that routine waits.
     pub fn waits(&self, routine: u32) -> bool
-        ensures { result ≡ is_waiting routine (line_of self.now) }
+        ensures { result ≡ is_waiting routine self.now.line }
     {
-        let line = self.line.as_slice();
-        for next in line {
-            if *next == routine {
-                return true;
-            }
-        }
-        false
+        self.line.contains(&routine)
     }
 
-    // The front of that queue of the channel.
-    pub fn first(&self, side: Side, channel: u32) -> Option<Entry<X>>
-        ensures { result ≡ first_of (queue side channel (line_of self.now) (table_of self.now)) }
+    // What the cases of a routine wait for.
+    fn cases_of(&self, routine: u32) -> &[Option<Wish<X>>]
+        ensures is { result.now ≡ cases routine self.now.table }
+        ensures few { length result.now ≤ 8 }
     {
-        let line = self.line.as_slice();
-        let table = self.wishes.as_slice();
-        for next in line {
-            if let Some(entry) = first_place(side, channel, *next, cases_of(table, *next)) {
-                return Some(entry);
-            }
+        match self.table.get(routine as usize) {
+            Some(row) => row.as_slice(),
+            None => &[],
         }
-        None
     }
 
-    // How many places that queue of the channel has.
-    pub fn count(&self, side: Side, channel: u32) -> usize
-        ensures { result ≡ length (queue side channel (line_of self.now) (table_of self.now)) }
+    // The front of that queue.
+    pub fn first(&self, q: Queue) -> Option<Entry<X>>
+        ensures { result ≡ first_of (queue q.side q.channel self.now.line self.now.table) }
     {
-        let line = self.line.as_slice();
-        let table = self.wishes.as_slice();
-        let mut n: usize = 0;
-        for next in line {
-            n += count_places(side, channel, *next, cases_of(table, *next));
-        }
-        n
+        self.line
+            .iter()
+            .find_map(|routine| q.first_place(*routine, self.cases_of(*routine)))
+    }
+
+    // How many places that queue has.
+    pub fn count(&self, q: Queue) -> usize
+        ensures { result ≡ length (queue q.side q.channel self.now.line self.now.table) }
+    {
+        self.line
+            .iter()
+            .map(|routine| q.count_places(*routine, self.cases_of(*routine)))
+            .sum()
     }
 
     // Whether a routine with so many cases may join.
-    pub(crate) fn may_join(&self, routine: u32, cases: usize) -> bool
-        ensures { result ≡ may_join routine cases (line_of self.now) }
+    fn may_join(&self, routine: u32, cases: usize) -> bool
+        ensures { result ≡ may_join routine cases self.now.line }
     {
         routine < 64 && cases <= 8 && !self.waits(routine)
     }
 
     // The routine joins the end of the line with its cases, and with each stands behind all others.
     // False, and nothing changes, where there is no such routine, it has over 8 cases or it waits already.
-    pub fn join(&mut self, routine: u32, wishes: &[Wish<X>]) -> bool
-        ensures answer { result ≡ may_join routine (length wishes.now) (line_of self.old) }
-        ensures line { line_of self.new ≡ (if result then line_of self.old ++ routine ∷ [] else line_of self.old) }
-        ensures table { table_of self.new ≡ (if result then written routine wishes.now (table_of self.old) else table_of self.old) }
-        ensures behind { Joined result routine wishes.now (line_of self.old) (table_of self.old) (line_of self.new) (table_of self.new) }
-        ensures steps { state_of self.new ≡ step (joins routine wishes.now) (state_of self.old) }
+    pub fn join(&mut self, routine: u32, wishes: &[Option<Wish<X>>]) -> bool
+        ensures answer { result ≡ may_join routine (length wishes.now) self.old.line }
+        ensures behind { Joined result routine wishes.now self.old self.new }
+        ensures steps { self.new ≡ step (joins routine wishes.now) self.old }
     {
         if !self.may_join(routine, wishes.len()) {
             return false;
         }
-        write_cases(&mut self.wishes, routine, wishes);
+        lay(&mut self.table[routine as usize], wishes);
         self.line.push_reserved(routine);
         true
     }
 
     // The routine leaves every queue, and the others keep their order; the answer is whether it waited.
     pub fn leave(&mut self, routine: u32) -> bool
-        ensures answer { result ≡ is_waiting routine (line_of self.old) }
-        ensures line { line_of self.new ≡ without routine (line_of self.old) }
-        ensures table { table_of self.new ≡ table_of self.old }
-        ensures gone { Absent routine (line_of self.new) (table_of self.new) }
-        ensures order { Parted routine (line_of self.old) (table_of self.old) (line_of self.new) (table_of self.new) }
-        ensures steps { state_of self.new ≡ step (leaves routine) (state_of self.old) }
+        ensures answer { result ≡ is_waiting routine self.old.line }
+        ensures gone { Absent routine self.new }
+        ensures order { Parted routine self.old self.new }
+        ensures steps { self.new ≡ step (leaves routine) self.old }
     {
         let waited = self.waits(routine);
         strike(&mut self.line, routine);
@@ -101,16 +134,12 @@ impl<X: Copy> Waiting<X> {
     }
 
     // The front of that queue, which leaves every queue of every channel; the others keep their order.
-    pub fn release_first(&mut self, side: Side, channel: u32) -> Option<Entry<X>>
-        ensures answer { result ≡ first_of (queue side channel (line_of self.old) (table_of self.old)) }
-        ensures line { line_of self.new ≡ released result (line_of self.old) }
-        ensures table { table_of self.new ≡ table_of self.old }
-        ensures served { Served result (line_of self.old) (table_of self.old) (line_of self.new) (table_of self.new) }
-        ensures steps { state_of self.new ≡ step (releases side channel) (state_of self.old) }
+    pub fn release_first(&mut self, q: Queue) -> Option<Entry<X>>
+        ensures answer { result ≡ first_of (queue q.side q.channel self.old.line self.old.table) }
+        ensures served { Served result self.old self.new }
+        ensures steps { self.new ≡ step (releases q.side q.channel) self.old }
     {
-        let Some(entry) = self.first(side, channel) else {
-            return None;
-        };
+        let entry = self.first(q)?;
         let _ = self.leave(entry.routine);
         Some(entry)
     }

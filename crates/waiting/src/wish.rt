@@ -1,22 +1,28 @@
 // What one case of a waiting routine waits for, and a place in a queue.
 
-// What a case waits for: nothing, to send an element on a channel, or to receive one from it.
-#[derive(Clone, Copy)]
+// What a case waits for: to send an element on a channel, or to receive one from it.
+#[derive(Debug, Clone, Copy, PartialEq, Eq)]
 pub enum Wish<X> {
-    Nothing,
     Send(u32, X),
     Receive(u32),
 }
 
-// The two queues of a channel.
-#[derive(Clone, Copy)]
+// The two sides of a channel at which routines wait.
+#[derive(Debug, Clone, Copy, PartialEq, Eq)]
 pub enum Side {
     Receivers,
     Senders,
 }
 
+// One of the two queues of a channel.
+#[derive(Debug, Clone, Copy, PartialEq, Eq)]
+pub struct Queue {
+    pub side: Side,
+    pub channel: u32,
+}
+
 // A place in a queue: the routine, its case, and what that case waits for.
-#[derive(Clone, Copy)]
+#[derive(Debug, Clone, Copy, PartialEq, Eq)]
 pub struct Entry<X> {
     pub routine: u32,
     pub case: u8,

@@ -1,14 +1,11 @@
 -- The laws, from the lemmas.
-use Rattle.std.proofs.Common.{ap, ◌∙◌}
-use Rattle.waiting.specs.Queues.{queue}
-use Rattle.waiting.specs.Laws.{among}
-use Rattle.waiting.proofs.Orders.{queue_without, queue_push, among_others}
+use Rattle.waiting.proofs.Orders.{queue_without, queue_push, gone}
 use Rattle.waiting.proofs.Turns.{earlier_is_ahead, first_come_first_served}
 use Rattle.waiting.proofs.laws.queues_keep_order.Goals as goal
 
 pub returns : goal.returns
 returns g c = record {
-  left = λ r line table s ch. ap (among r) (queue_without s ch r line table) ∙ among_others r (queue s ch line table);
+  left = λ r line table s ch. gone s ch r line table;
   others = λ s ch r line table. queue_without s ch r line table;
   behind = λ s ch r line table. queue_push s ch r line table;
   earlier = earlier_is_ahead;

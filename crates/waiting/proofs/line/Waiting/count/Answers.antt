@@ -1,21 +1,22 @@
--- One routine further in the line.
-use Rattle.std.proofs.Common.{◌≡◌, length, get_or, ap, ◌∙◌, arith}
-use Rattle.waiting.specs.Lines.{line_of}
-use Rattle.waiting.specs.Queues.{queue, places, cases}
-use Rattle.waiting.proofs.Fronts.{length_step, queue_none}
+-- The places of each, of whom there are at most 64.
+use Rattle.std.proofs.Common.{ℕ, ◌≤◌, ◌^◌, length, sym, ◌∙◌, ap, rules, arith}
+use Rattle.std.proofs.lemmas.Iterator.{YieldsList-from_slice, YieldsList-from_map}
+use Rattle.std.proofs.lemmas.Iterator.Adapters.{fits_from_length, at_most_from_yields_List}
+use Rattle.std.proofs.lemmas.Iterator.Consumers.{YieldsList-at, sum_by_from_yields_List}
+use Rattle.std.proofs.lemmas.List.Concat.{length-flat_map}
+use borrow.Author.Tests.{tests}
+use Rattle.waiting.specs.Queues.{places, cases}
+use Rattle.waiting.proofs.Lines.{crowd}
 use Rattle.waiting.proofs.line.Waiting.count.Goals as goal
 
-pub loop-next-preserved : goal.loop-next-preserved
-loop-next-preserved g c =
-    let e = length_step c.args.side c.args.channel c.as_slice-line.result.now c.as_slice-table.result.now c.loop-next.next-index (omega arith) in
-    let n : c.count_places-n.result ≡ length (places c.args.side c.args.channel (get_or c.as_slice-line.result.now c.loop-next.next-index 0) 0 (cases (get_or c.as_slice-line.result.now c.loop-next.next-index 0) c.as_slice-table.result.now)) =
-    c.count_places-n.ensures.is ∙ ap (λ l. length (places c.args.side c.args.channel (get_or c.as_slice-line.result.now c.loop-next.next-index 0) 0 l)) c.cases_of.ensures.is in
-    (omega arith, omega arith)
+pub sum-requires-clause-fits : goal.sum-requires-clause-fits
+sum-requires-clause-fits g c =
+    fits_from_length _ _ 64 (2 ^ 64) (at_most_from_yields_List (YieldsList-at c.map.ensures.source (YieldsList-from_slice c.self.inside.line.items (c.iter.ensures.rest ∙ c.deref.ensures.value))) (crowd 64 c.self.inside.line.items c.self.invariant.0)) c.map.ensures.closure (omega arith)
+    (λ x r q k. search rules)
 
 pub returns : goal.returns
 returns g c =
-    let e = ap length (queue_none c.args.side c.args.channel c.as_slice-line.result.now c.as_slice-table.result.now c.loop-next.next-index (omega arith)) in
-    let all : c.loop-next.n ≡ length (queue c.args.side c.args.channel c.as_slice-line.result.now c.as_slice-table.result.now) = omega arith in
-    all
-    ∙ ap (λ l. length (queue c.args.side c.args.channel l c.as_slice-table.result.now)) c.as_slice-line.ensures.value
-    ∙ ap (λ t. length (queue c.args.side c.args.channel (line_of c.args.self.now) t)) c.as_slice-table.ensures.value
+    let own = λ (r : ℕ). places c.args.q.side c.args.q.channel r 0 (cases r c.args.self.now.table) in
+    sum_by_from_yields_List (λ r. length (own r)) c.args.self.now.line c.map.result c.sum.result c.sum.ensures.ran
+    (YieldsList-from_map _ (λ r. length (own r)) (YieldsList-at c.map.ensures.source (YieldsList-from_slice c.args.self.now.line (c.iter.ensures.rest ∙ c.deref.ensures.value ∙ ap (λ s. s.line) c.self.view_is))) c.map.ensures.closure (λ x r q k. search (rules, tests)))
+    ∙ sym (length-flat_map own c.args.self.now.line)

@@ -1,0 +1,63 @@
+-- The line when a routine joins or leaves it.
+use Rattle.std.proofs.Common.{◌≡◌, ℕ, zero, suc, ◌<◌, ◌≤◌, Bool, true, false, cond, not, ◌||◌, ◌&&◌, eqb, List, [], ◌∷◌, ◌++◌, length, sym, refl, ap, ◌∙◌, arith, length-append}
+use Rattle.std.specs.List.{All, AllByRecursion, IsDistinct}
+use Rattle.std.proofs.lemmas.Bool.{eqb-true, eq-eqb, true≢false}
+use Rattle.std.proofs.lemmas.List.Folds.{Any-from_list_any}
+use Rattle.std.proofs.lemmas.List.Elements.{All-filter, All-append, All-nil}
+use Rattle.std.proofs.lemmas.Map.Keys.{IsDistinct-push}
+use Rattle.std.proofs.lemmas.Map.Steps.{length-le_from_distinct_below}
+use Rattle.std.proofs.lemmas.Map.Views.{any-filter_same}
+use Rattle.std.specs.List.{filter}
+use Rattle.std.specs.Cmp.{nat_eq_equiv}
+use Rattle.waiting.specs.Queues.{Row, waits, without, written, Orderly}
+use Rattle.waiting.specs.Lines.{State}
+use Rattle.waiting.specs.Laws.{may_join}
+use Rattle.waiting.specs.Runs.{step, joins}
+
+pub or_false : (a b : Bool) → (a || b) ≡ false → (a ≡ false) × (b ≡ false)
+or_false true b h = absurd (true≢false h)
+or_false false b h = (refl, h)
+
+kept : (P : ℕ → Type 0) (p : ℕ → Bool) (xs : List ℕ) → AllByRecursion P xs → AllByRecursion P (filter p xs)
+kept P p [] h = tt
+kept P p (x ∷ xs) h =
+    let ih = kept P p xs h.1 in
+    elim (p x) as (λ b. AllByRecursion P (cond b (x ∷ filter p xs) (filter p xs))) [ true ↦ (h.0, ih) | false ↦ ih ]
+
+distinct : (p : ℕ → Bool) (xs : List ℕ) → IsDistinct eqb xs → IsDistinct eqb (filter p xs)
+unfolding IsDistinct
+distinct p [] h = tt
+distinct p (x ∷ xs) h =
+    let ih = distinct p xs h.1 in
+    elim (p x) as (λ b. IsDistinct eqb (cond b (x ∷ filter p xs) (filter p xs))) [ true ↦ (kept _ p xs h.0, ih) | false ↦ ih ]
+
+pub orderly_without : (n r : ℕ) (line : List ℕ) → Orderly n line → Orderly n (without r line)
+orderly_without n r line h = (All-filter _ (λ q. q < n) line h.0, distinct _ line h.1)
+
+pub waits_without : (r : ℕ) (line : List ℕ) → waits r (without r line) ≡ false
+waits_without r line = any-filter_same (eqb r) (λ q. not (eqb q r)) false (λ q e. ap not (eq-eqb q r (sym (eqb-true r q e)))) line
+
+-- a line in order is no longer than there are routines
+pub crowd : (n : ℕ) (line : List ℕ) → Orderly n line → length line ≤ n
+crowd n line h =
+    length-le_from_distinct_below line n h.1
+    (λ q e. let a = Any-from_list_any (eqb q) line e in omega (arith, h.0 a.0 a.1 a.2, a.3, eqb-true q a.1 a.4))
+
+single : (n r : ℕ) → r < n → All (λ q. q < n) (r ∷ [])
+single n r h zero d l = h
+single n r h (suc k) d l = absurd (omega arith)
+
+pub orderly_push : (n r : ℕ) (line : List ℕ) → r < n → waits r line ≡ false → Orderly n line → Orderly n (line ++ r ∷ [])
+orderly_push n r line h w o = (All-append (λ q. q < n) line (r ∷ []) o.0 (single n r h), IsDistinct-push nat_eq_equiv line r o.1 w)
+
+-- who does not wait finds room
+pub room_left : (n r : ℕ) (line : List ℕ) → r < n → waits r line ≡ false → Orderly n line → length line < n
+room_left n r line h w o = omega (arith, crowd n (line ++ r ∷ []) (orderly_push n r line h w o), length-append line (r ∷ []))
+
+pub orderly_none : (n : ℕ) → Orderly n []
+unfolding IsDistinct
+orderly_none n = (All-nil (λ q. q < n), tt)
+
+-- a join that was answered true
+pub joined_state : {X : Type 0} (r : ℕ) (ws : Row X) (st : State X) (line : List ℕ) (table : List (Row X)) → line ≡ st.line ++ r ∷ [] → table ≡ written r ws st.table → may_join r (length ws) st.line ≡ true → record { line = line; table = table } ≡ step (joins r ws) st
+joined_state {X} r ws st line table l t may = rw (l, t, may) refl
