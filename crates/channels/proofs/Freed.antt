@@ -1,13 +1,13 @@
 -- One routine more is released by a close.
 use Rattle.std.proofs.Common.{◌≡◌, ℕ, suc, ◌<◌, Bool, true, false, cond, not, eqb, ◌⊎◌, List, [], ◌∷◌, ◌++◌, length, Some, None, sym, refl, ap, ◌∙◌, inl, inr, ⊎_elim, arith}
 use Rattle.std.proofs.lemmas.List.Elements.{filter-append}
-use Rattle.std.proofs.lemmas.Bool.{eqb-true, eq-eqb, true≢false}
-use Rattle.waiting.specs.declared.wish.Wish.{Wish}
+use Rattle.std.proofs.lemmas.List.Sums.{length-filter, count_by-le-length}
+use Rattle.std.proofs.lemmas.Bool.{eqb-true, eq-eqb}
 use Rattle.waiting.specs.declared.wish.Entry.{Entry}
 use Rattle.waiting.specs.declared.wish.Side.TheVariants.{Receivers, Senders}
-use Rattle.waiting.specs.Queues.{queue, first, without}
-use Rattle.waiting.specs.Laws.{among, others}
-use Rattle.waiting.proofs.Orders.{queue_without, among_others}
+use Rattle.waiting.specs.Queues.{Row, queue, first, without}
+use Rattle.waiting.specs.Laws.{others}
+use Rattle.waiting.proofs.Orders.{queue_without}
 use Rattle.channels.specs.Closes.{both, firsts, freed}
 
 -- ---- two routines may be taken out in either order, and once is enough
@@ -41,7 +41,7 @@ module _ {X : Type 0} where
       go true t ih = simp t (ih ∙ sym (others_twice r (firsts es)) ∙ ap (λ q. others r (others q (firsts es))) (sym (eqb-true e.routine r t)))
       go false t ih = simp t (ap (λ l. e ∷ others e.routine l) ih ∙ ap (λ l. e ∷ l) (others_swap e.routine r (firsts es)))
 
-module _ {X : Type 0} (c : ℕ) (line : List ℕ) (table : List (Wish X)) where
+module _ {X : Type 0} (c : ℕ) (line : List ℕ) (table : List (Row X)) where
   pub first_freed : first (freed c line table) ≡ first (both c line table)
   first_freed = go (both c line table)
     where
@@ -56,7 +56,7 @@ module _ {X : Type 0} (c : ℕ) (line : List ℕ) (table : List (Wish X)) where
       go [] h = refl
       go (e ∷ es) h = cc
 
-module _ {X : Type 0} (c : ℕ) (line : List ℕ) (table : List (Wish X)) (e : Entry X) where
+module _ {X : Type 0} (c : ℕ) (line : List ℕ) (table : List (Row X)) (e : Entry X) where
   both_without : both c (without e.routine line) table ≡ others e.routine (both c line table)
   both_without =
       ap (λ l. l ++ queue Senders c (without e.routine line) table) (queue_without Receivers c e.routine line table)
@@ -79,8 +79,8 @@ module _ {X : Type 0} (c : ℕ) (line : List ℕ) (table : List (Wish X)) (e : E
       go [] h s = cc
       go (x ∷ xs) h s =
           let own : x ≡ e = cc in
-          let here = eq-eqb x.routine e.routine (ap (λ y. y.routine) own) in
-          true≢false (ap (λ b. cond b true (among e.routine xs)) (sym here) ∙ ap (among e.routine) (sym s) ∙ among_others e.routine (x ∷ xs))
+          let same : others e.routine (x ∷ xs) ≡ others e.routine xs = ap (λ y. others e.routine (y ∷ xs)) own ∙ others_own e xs in
+          omega (arith, ap length s, ap length same, length-filter (λ (y : Entry X). not (eqb y.routine e.routine)) xs, count_by-le-length (λ (y : Entry X). not (eqb y.routine e.routine)) xs)
 
       shorter : (qs : List ℕ) → (without e.routine qs ≡ qs) ⊎ (length (without e.routine qs) < length qs)
       shorter [] = inl refl

@@ -4,9 +4,8 @@ use Rattle.std.proofs.lemmas.List.{length-append, length-drop}
 use Rattle.std.proofs.lemmas.Bool.{ltb-true}
 use Rattle.waiting.specs.declared.wish.Side.{Side}
 use Rattle.waiting.specs.declared.wish.Side.TheVariants.{Receivers, Senders}
-use Rattle.waiting.specs.declared.wish.Wish.{Wish}
 use Rattle.waiting.specs.declared.wish.Entry.{Entry}
-use Rattle.waiting.specs.Queues.{queue, first, without}
+use Rattle.waiting.specs.Queues.{Row, queue, first, without}
 use Rattle.waiting.specs.Laws.{others}
 use Rattle.channels.specs.declared.channel.SendError.TheVariants.{ShortBank, Closed}
 use Rattle.channels.specs.declared.channel.ReceiveError.TheVariants.{ShortBank as ShortOfCells}
@@ -88,11 +87,11 @@ none_parts [] [] h = (refl, refl)
 none_parts [] (y ∷ ys) h = let k : ◌≡◌ {A = ℕ} 0 1 = cc in absurd (omega arith)
 none_parts (x ∷ xs) ys h = let k : ◌≡◌ {A = ℕ} 0 1 = cc in absurd (omega arith)
 
-side_none : {X : Type 0} (s : Side) (c : ℕ) (line : List ℕ) (table : List (Wish X)) → first (both c line table) ≡ None → queue s c line table ≡ []
+side_none : {X : Type 0} (s : Side) (c : ℕ) (line : List ℕ) (table : List (Row X)) → first (both c line table) ≡ None → queue s c line table ≡ []
 side_none Receivers c line table h = (none_parts (queue Receivers c line table) (queue Senders c line table) h).0
 side_none Senders c line table h = (none_parts (queue Receivers c line table) (queue Senders c line table) h).1
 
-module _ {X : Type 0} (s : Side) (c : ℕ) (table : List (Wish X)) where
+module _ {X : Type 0} (s : Side) (c : ℕ) (table : List (Row X)) where
   frees : (es : List (Entry X)) (line : List ℕ) → freed c line table ≡ es → queue s c (without_all es line) table ≡ []
   frees [] line h = side_none s c line table (sym (first_freed c line table) ∙ ap first h)
   frees (e ∷ es) line h =

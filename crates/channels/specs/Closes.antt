@@ -1,15 +1,16 @@
 -- Closing.
 use Rattle.std.specs.Prelude.{ℕ, Bool, cond, List, [], ◌∷◌, ◌++◌, Ok, Err, Result}
-use Rattle.waiting.specs.declared.wish.Wish.{Wish}
 use Rattle.waiting.specs.declared.wish.Entry.{Entry}
 use Rattle.waiting.specs.declared.wish.Side.TheVariants.{Receivers, Senders}
-use Rattle.waiting.specs.Queues.{queue, without}
+use Rattle.waiting.specs.Lines.{State}
+use Rattle.waiting.specs.Queues.{Row, queue, without}
 use Rattle.waiting.specs.Laws.{others}
+use Rattle.channels.specs.declared.channel.Channel.{Channel}
 use Rattle.channels.specs.declared.channel.CloseError.{CloseError}
 use Rattle.channels.specs.declared.channel.CloseError.TheVariants.{AlreadyClosed, NoRoom}
 
 -- the receivers, and after them the senders
-abbrev pub both : {X : Type 0} → ℕ → List ℕ → List (Wish X) → List (Entry X)
+abbrev pub both : {X : Type 0} → ℕ → List ℕ → List (Row X) → List (Entry X)
 both c line table = queue Receivers c line table ++ queue Senders c line table
 
 -- of each routine the first entry met
@@ -18,13 +19,20 @@ firsts [] = []
 firsts (e ∷ es) = e ∷ others e.routine (firsts es)
 
 -- who is released, in order
-abbrev pub freed : {X : Type 0} → ℕ → List ℕ → List (Wish X) → List (Entry X)
+abbrev pub freed : {X : Type 0} → ℕ → List ℕ → List (Row X) → List (Entry X)
 freed c line table = firsts (both c line table)
 
 -- the line when these have left it
 abbrev pub without_all : {X : Type 0} → List (Entry X) → List ℕ → List ℕ
 without_all [] line = line
 without_all (e ∷ es) line = without_all es (without e.routine line)
+
+-- who leaves when a channel is closed, and the line without them
+abbrev pub freed_at : {X : Type 0} → Channel → State X → List (Entry X)
+freed_at c st = freed c.number st.line st.table
+
+abbrev pub line_closed : {X : Type 0} → Channel → State X → State X
+line_closed c st = record st { line = without_all (freed_at c st) st.line }
 
 -- how many a close releases
 abbrev pub closing : Bool → Bool → ℕ → Result ℕ CloseError

@@ -1,6 +1,7 @@
 -- Taking a receive.
-use Rattle.std.specs.Prelude.{ℕ, Bool, cond, List, [], ◌∷◌, ◌++◌, drop, Some, None, Option, Ok, Err, Result, slice_set}
+use Rattle.std.specs.Prelude.{Bool, cond, List, [], ◌∷◌, ◌++◌, drop, Some, None, Option, Ok, Err, Result, slice_set}
 use Rattle.waiting.specs.declared.wish.Entry.{Entry}
+use Rattle.waiting.specs.Lines.{State}
 use Rattle.waiting.specs.Queues.{first, without, released}
 use Rattle.rings.specs.Layouts.{Layout, next_cell, one_more, one_less}
 use Rattle.channels.specs.declared.channel.Received.{Received}
@@ -35,11 +36,11 @@ after_got f z (Ok (Handed e w)) c = parted w.routine c
 after_got f z (Ok Drained) c = c
 after_got f z (Err why) c = c
 
-abbrev pub line_got : {E X : Type 0} → Result (Received E X) ReceiveError → List ℕ → List ℕ
-line_got (Ok (Taken e sender)) line = released sender line
-line_got (Ok (Handed e w)) line = without w.routine line
-line_got (Ok Drained) line = line
-line_got (Err why) line = line
+abbrev pub line_got : {E X : Type 0} → Result (Received E X) ReceiveError → State X → State X
+line_got (Ok (Taken e sender)) st = record st { line = released sender st.line }
+line_got (Ok (Handed e w)) st = record st { line = without w.routine st.line }
+line_got (Ok Drained) st = st
+line_got (Err why) st = st
 
 -- one cell is written where a queued sender's element was buffered
 abbrev pub cells_filled : {E X : Type 0} → (X → E) → E → Option (Entry X) → Layout → List E → List E

@@ -2,7 +2,8 @@
 use Rattle.std.specs.Prelude.{ℕ, Bool, cond, List, [], ◌∷◌, ◌++◌, length, Some, None, Option, Ok, Err, Result, nat_lt, slice_set}
 use Rattle.waiting.specs.declared.wish.Entry.{Entry}
 use Rattle.waiting.specs.declared.wish.Wish.{Wish}
-use Rattle.waiting.specs.declared.wish.Wish.TheVariants.{Nothing, Send, Receive}
+use Rattle.waiting.specs.declared.wish.Wish.TheVariants.{Send, Receive}
+use Rattle.waiting.specs.Lines.{State}
 use Rattle.waiting.specs.Queues.{first, without}
 use Rattle.waiting.specs.Laws.{others}
 use Rattle.rings.specs.Layouts.{Layout, next_cell, one_more}
@@ -22,10 +23,10 @@ abbrev pub sent : {E X : Type 0} → Told E X → Result (Sent X) SendError
 sent c = cond c.there (cond c.closed (Err Closed) (sent_to (first c.receivers) (nat_lt (length c.buffer) c.capacity))) (Err ShortBank)
 
 -- the waiting line afterwards: who was served leaves every queue
-abbrev pub line_sent : {X : Type 0} → Result (Sent X) SendError → List ℕ → List ℕ
-line_sent (Ok (Handed w)) line = without w.routine line
-line_sent (Ok Buffered) line = line
-line_sent (Err why) line = line
+abbrev pub line_sent : {X : Type 0} → Result (Sent X) SendError → State X → State X
+line_sent (Ok (Handed w)) st = record st { line = without w.routine st.line }
+line_sent (Ok Buffered) st = st
+line_sent (Err why) st = st
 
 -- the channel afterwards: who was served is in none of its queues, and the others keep their order
 abbrev pub parted : {E X : Type 0} → ℕ → Told E X → Told E X
@@ -50,7 +51,6 @@ laid_sent (Err why) c = c
 
 -- the element that a case offers to send
 abbrev pub offer : {E X : Type 0} → (X → E) → E → Wish X → E
-offer f z Nothing = z
 offer f z (Send d x) = f x
 offer f z (Receive d) = z
 

@@ -1,9 +1,10 @@
 -- What a channel stands for, with its bank and the waiting line.
 use Rattle.std.specs.Prelude.{ℕ, Bool, true, false, cond, List, Some, None, Option}
 use Rattle.rings.specs.Layouts.{covers, held, can_lie, fresh}
-use Rattle.waiting.specs.declared.wish.Wish.{Wish}
 use Rattle.waiting.specs.declared.wish.Entry.{Entry}
+use Rattle.waiting.specs.declared.wish.Side.{Side}
 use Rattle.waiting.specs.declared.wish.Side.TheVariants.{Receivers, Senders}
+use Rattle.waiting.specs.Lines.{State}
 use Rattle.waiting.specs.Queues.{queue}
 use Rattle.channels.specs.declared.channel.Channel.{Channel}
 
@@ -27,8 +28,12 @@ told c bank receivers senders = record {
   senders = senders;
 }
 
-abbrev pub seen : {E X : Type 0} → Channel → List E → List ℕ → List (Wish X) → Told E X
-seen c bank line table = told c bank (queue Receivers c.number line table) (queue Senders c.number line table)
+-- who waits at it, on that side
+abbrev pub queued : {X : Type 0} → Side → Channel → State X → List (Entry X)
+queued s c st = queue s c.number st.line st.table
+
+abbrev pub seen : {E X : Type 0} → Channel → List E → State X → Told E X
+seen c bank st = told c bank (queued Receivers c st) (queued Senders c st)
 
 -- a new channel is open and holds nothing; there is none of more than 64 cells or past the end of all banks
 abbrev pub new_channel : ℕ → ℕ → ℕ → Option Channel

@@ -1,9 +1,8 @@
 -- What every channel keeps.
 use Rattle.std.specs.Prelude.{◌≡◌, ℕ, ◌≤◌, Bool, true, false, List, [], ◌∷◌, ◌++◌, length}
 use Rattle.waiting.specs.declared.wish.Side.{Side}
-use Rattle.waiting.specs.declared.wish.Wish.{Wish}
 use Rattle.waiting.specs.declared.wish.Entry.{Entry}
-use Rattle.waiting.specs.Queues.{queue}
+use Rattle.waiting.specs.Queues.{Row, queue}
 use Rattle.channels.specs.Seen.{Told}
 use Rattle.channels.specs.Rules.{sent, after_sent, parted}
 use Rattle.channels.specs.Receives.{got, after_got}
@@ -45,4 +44,4 @@ JoiningSettles E X =
 
 -- after a close nobody waits at the channel
 abbrev pub ClosingFreesAll : Type 0 → Type 0
-ClosingFreesAll X = (s : Side) (c : ℕ) (line : List ℕ) (table : List (Wish X)) → queue s c (without_all (freed c line table) line) table ≡ []
+ClosingFreesAll X = (s : Side) (c : ℕ) (line : List ℕ) (table : List (Row X)) → queue s c (without_all (freed c line table) line) table ≡ []

@@ -1,9 +1,8 @@
 // Taking a send and taking a receive.
 ghost use Rattle.std.specs.Prelude.{◌≡◌, ◌<◌, true, List, ◌++◌, length};
-ghost use Rattle.waiting.specs.Lines.{line_of, table_of};
-ghost use Rattle.waiting.specs.Queues.{queue, first as first_of, released};
+ghost use Rattle.waiting.specs.Queues.{first as first_of, released};
 ghost use Rattle.rings.specs.Layouts.{covers, held};
-ghost use Rattle.channels.specs.Seen.{seen};
+ghost use Rattle.channels.specs.Seen.{seen, queued};
 ghost use Rattle.channels.specs.Rules.{sent, after_sent, line_sent, cells_sent, laid_sent, offered};
 ghost use Rattle.channels.specs.Receives.{got, got_from, after_got, line_got, cells_got, laid_got, after_filled, cells_filled, laid_filled};
 ghost use Rattle.waiting.specs.declared.wish.Side.TheVariants.{Receivers, Senders};
@@ -11,7 +10,7 @@ ghost use Rattle.waiting.specs.Laws.{Served};
 
 use crate::channel::{Carries, Channel, ReceiveError, Received, SendError, Sent};
 use elements::Element;
-use waiting::{Entry, Side, Waiting, Wish};
+use waiting::{Entry, Queue, Side, Waiting, Wish};
 
 // The element that a queued sender offers.
 fn offered_by<E: Element, X: Carries<E>>(sender: Entry<X>) -> E
@@ -19,11 +18,31 @@ fn offered_by<E: Element, X: Carries<E>>(sender: Entry<X>) -> E
 {
     match sender.wish {
         Wish::Send(_, x) => x.carried_element(),
-        _ => E::zero(),
+        Wish::Receive(_) => E::zero(),
     }
 }
 
 impl Channel {
+    // The queue of those who wait to receive from it.
+    fn receivers(&self) -> Queue
+        ensures { result ≡ record { side = Receivers; channel = self.now.number } }
+    {
+        Queue {
+            side: Side::Receivers,
+            channel: self.number,
+        }
+    }
+
+    // The queue of those who wait to send on it.
+    fn senders(&self) -> Queue
+        ensures { result ≡ record { side = Senders; channel = self.now.number } }
+    {
+        Queue {
+            side: Side::Senders,
+            channel: self.number,
+        }
+    }
+
     // Takes a send: the first queued receiver gets the element, or it is buffered.
     pub fn send<E: Element, X: Copy>(
         &mut self,
@@ -31,10 +50,9 @@ impl Channel {
         bank: &mut [E],
         e: E,
     ) -> Result<Sent<X>, SendError>
-        ensures answer { result ≡ sent (seen self.old bank.old (line_of waiting.old) (table_of waiting.old)) }
-        ensures after { seen self.new bank.new (line_of waiting.new) (table_of waiting.new) ≡ after_sent result e (seen self.old bank.old (line_of waiting.old) (table_of waiting.old)) }
-        ensures line { line_of waiting.new ≡ line_sent result (line_of waiting.old) }
-        ensures table { table_of waiting.new ≡ table_of waiting.old }
+        ensures answer { result ≡ sent (seen self.old bank.old waiting.old) }
+        ensures after { seen self.new bank.new waiting.new ≡ after_sent result e (seen self.old bank.old waiting.old) }
+        ensures line { waiting.new ≡ line_sent result waiting.old }
         ensures cells { bank.new ≡ cells_sent result self.old.ring e bank.old }
         ensures channel { self.new ≡ laid_sent result self.old }
     {
@@ -44,7 +62,7 @@ impl Channel {
         if self.closed {
             return Err(SendError::Closed);
         }
-        if let Some(receiver) = waiting.release_first(Side::Receivers, self.number) {
+        if let Some(receiver) = waiting.release_first(self.receivers()) {
             return Ok(Sent::Handed(receiver));
         }
         self.ring.put(bank, e).map_err(|_| SendError::Full)?;
@@ -59,14 +77,13 @@ impl Channel {
     ) -> Option<Entry<X>>
         requires there { covers self.old.ring bank.old ≡ true }
         requires room { length (held self.old.ring bank.old) < self.old.ring.capacity }
-        ensures answer { result ≡ first_of (queue Senders self.old.number (line_of waiting.old) (table_of waiting.old)) }
-        ensures after { seen self.new bank.new (line_of waiting.new) (table_of waiting.new) ≡ after_filled X.carried E.nought result (seen self.old bank.old (line_of waiting.old) (table_of waiting.old)) }
-        ensures line { line_of waiting.new ≡ released result (line_of waiting.old) }
-        ensures table { table_of waiting.new ≡ table_of waiting.old }
+        ensures answer { result ≡ first_of (queued Senders self.old waiting.old) }
+        ensures after { seen self.new bank.new waiting.new ≡ after_filled X.carried E.nought result (seen self.old bank.old waiting.old) }
+        ensures line { waiting.new ≡ record waiting.old { line = released result waiting.old.line } }
         ensures cells { bank.new ≡ cells_filled X.carried E.nought result self.old.ring bank.old }
         ensures channel { self.new ≡ laid_filled result self.old }
     {
-        let sender = waiting.release_first(Side::Senders, self.number)?;
+        let sender = waiting.release_first(self.senders())?;
         let _ = self.ring.put(bank, offered_by(sender));
         Some(sender)
     }
@@ -76,12 +93,11 @@ impl Channel {
         &self,
         waiting: &mut Waiting<X>,
     ) -> Result<Received<E, X>, ReceiveError>
-        ensures answer { result ≡ got_from X.carried E.nought (first_of (queue Senders self.now.number (line_of waiting.old) (table_of waiting.old))) self.now.closed }
-        ensures line { line_of waiting.new ≡ line_got result (line_of waiting.old) }
-        ensures table { table_of waiting.new ≡ table_of waiting.old }
-        ensures queues { (bank : List E) → seen self.now bank (line_of waiting.new) (table_of waiting.new) ≡ after_got X.carried E.nought result (seen self.now bank (line_of waiting.old) (table_of waiting.old)) }
+        ensures answer { result ≡ got_from X.carried E.nought (first_of (queued Senders self.now waiting.old)) self.now.closed }
+        ensures line { waiting.new ≡ line_got result waiting.old }
+        ensures queues { (bank : List E) → seen self.now bank waiting.new ≡ after_got X.carried E.nought result (seen self.now bank waiting.old) }
     {
-        match waiting.release_first(Side::Senders, self.number) {
+        match waiting.release_first(self.senders()) {
             Some(sender) => Ok(Received::Handed(offered_by(sender), sender)),
             None if self.closed => Ok(Received::Drained),
             None => Err(ReceiveError::Empty),
@@ -94,10 +110,9 @@ impl Channel {
         waiting: &mut Waiting<X>,
         bank: &mut [E],
     ) -> Result<Received<E, X>, ReceiveError>
-        ensures answer { result ≡ got X.carried E.nought (seen self.old bank.old (line_of waiting.old) (table_of waiting.old)) }
-        ensures after { seen self.new bank.new (line_of waiting.new) (table_of waiting.new) ≡ after_got X.carried E.nought result (seen self.old bank.old (line_of waiting.old) (table_of waiting.old)) }
-        ensures line { line_of waiting.new ≡ line_got result (line_of waiting.old) }
-        ensures table { table_of waiting.new ≡ table_of waiting.old }
+        ensures answer { result ≡ got X.carried E.nought (seen self.old bank.old waiting.old) }
+        ensures after { seen self.new bank.new waiting.new ≡ after_got X.carried E.nought result (seen self.old bank.old waiting.old) }
+        ensures line { waiting.new ≡ line_got result waiting.old }
         ensures cells { bank.new ≡ cells_got X.carried E.nought result self.old.ring bank.old }
         ensures channel { self.new ≡ laid_got result self.old }
     {
@@ -113,15 +128,14 @@ impl Channel {
     // The next routine that a close releases: the first queued receiver, and where none is left the first queued
     // sender. It leaves every queue.
     pub fn release_next<X: Copy>(&self, waiting: &mut Waiting<X>) -> Option<Entry<X>>
-        ensures answer { result ≡ first_of (queue Receivers self.now.number (line_of waiting.old) (table_of waiting.old) ++ queue Senders self.now.number (line_of waiting.old) (table_of waiting.old)) }
-        ensures line { line_of waiting.new ≡ released result (line_of waiting.old) }
-        ensures table { table_of waiting.new ≡ table_of waiting.old }
-        ensures served { Served result (line_of waiting.old) (table_of waiting.old) (line_of waiting.new) (table_of waiting.new) }
+        ensures answer { result ≡ first_of (queued Receivers self.now waiting.old ++ queued Senders self.now waiting.old) }
+        ensures line { waiting.new ≡ record waiting.old { line = released result waiting.old.line } }
+        ensures served { Served result waiting.old waiting.new }
     {
         // `or_else` does not say that the line is left alone where its closure is not called.
-        match waiting.release_first(Side::Receivers, self.number) {
+        match waiting.release_first(self.receivers()) {
             Some(receiver) => Some(receiver),
-            None => waiting.release_first(Side::Senders, self.number),
+            None => waiting.release_first(self.senders()),
         }
     }
 }

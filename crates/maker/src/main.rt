@@ -62,7 +62,7 @@ fn receive(rt: &HostRuntime, desk: &mut Desk) -> anyhow::Result<()> {
 }
 
 fn wait(rt: &HostRuntime, desk: &mut Desk, routine: u32, wish: Wish<Pair>) -> anyhow::Result<()> {
-    let joined = desk.waiting.join(routine, &[wish]);
+    let joined = desk.waiting.join(routine, &[Some(wish)]);
     println!(rt; "routine {routine} waits: {joined}")?;
     Ok(())
 }
