@@ -71,7 +71,7 @@ kept_after base capacity bank h (o ∷ os) k = kept_after base capacity bank (st
 kept_begun : {X : Type 0} (base capacity : ℕ) (bank : List X) → Kept base capacity bank (begun (fresh base capacity) bank)
 kept_begun base capacity bank = record {
   turns = turned_fresh base capacity;
-  order = sym (contents_none (between base (base + capacity) bank) 0);
+  order = sym (contents_none (between base (base + capacity) bank) 0 0 refl);
   places = refl;
 }
 

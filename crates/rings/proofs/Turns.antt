@@ -7,8 +7,7 @@ use Rattle.rings.specs.Contents.{around}
 use Rattle.rings.specs.Layouts.{Layout, fresh, covers, held, next_cell, one_more, one_less}
 use Rattle.rings.specs.Answers.{oldest_of, put_answer, take_answer}
 use Rattle.rings.specs.Laws.{Operation, putting, taking, Call, Tally, counted_put, counted_take, counted, tally, Turns}
-use Rattle.rings.proofs.Contents.{around_below}
-use Rattle.rings.proofs.Holding.{length_held, held_most}
+use Rattle.rings.proofs.Holding.{around_below, length_held, held_most}
 
 -- a ring's numbers after so many puts and takes
 pub record Turned (base capacity puts takes : ℕ) (l : Layout) : Type 0 where
