@@ -1,17 +1,24 @@
 -- Rings without a cell in common.
-use Rattle.std.proofs.Common.{◌≡◌, ℕ, ◌+◌, ◌-◌, ◌<◌, ◌≤◌, Bool, true, false, cond, ◌⊎◌, List, ◌++◌, length, take, drop, replicate, Ok, Err, Result, sym, refl, ap, ◌∙◌, inl, inr, arith, leb-true}
+use Rattle.std.proofs.Common.{◌≡◌, ℕ, ◌+◌, ◌-◌, ◌<◌, ◌≤◌, Bool, true, false, cond, ◌⊎◌, List, ◌++◌, length, take, drop, replicate, set, Ok, Err, Result, sym, refl, ap, ◌∙◌, inl, inr, arith, leb-true}
 use borrow.Rule.Slice.PartMut.{put_mid}
 use Rattle.std.specs.List.{between}
-use Rattle.std.proofs.lemmas.List.{drop-drop, length-replicate}
+use Rattle.std.proofs.lemmas.List.{drop-drop, length-replicate, take-set-le, drop-set-lt}
 use Rattle.std.proofs.lemmas.Slice.{between_is, take-put_mid_below, drop-put_mid}
 use Rattle.rings.specs.declared.ring.RingError.{RingError}
 use Rattle.rings.specs.declared.ring.RingError.TheVariants.{ShortBank}
-use Rattle.rings.specs.Contents.{around, contents, cleared}
+use Rattle.rings.specs.Contents.{contents, cleared}
 use Rattle.rings.specs.Layouts.{Layout, Sound, covers, held, next_cell}
 use Rattle.rings.specs.Answers.{put_answer, stored, wiped}
 use Rattle.rings.specs.Laws.{Apart, LeftAlone}
-use Rattle.rings.proofs.Contents.{between_set_other, around_below}
+use Rattle.rings.proofs.Holding.{around_below}
 use Rattle.rings.proofs.Turns.{can_put}
+
+-- a write outside a part leaves the part
+between_set_other : {X : Type 0} (b c : ℕ) (xs : List X) (i : ℕ) (e : X) → (i < b) ⊎ (b + c ≤ i)
+    → between b (b + c) (set xs i e) ≡ between b (b + c) xs
+between_set_other b c xs i e (inl l) = ap (take (b + c - b)) (drop-set-lt b xs i e l)
+between_set_other b c xs i e (inr g) =
+    between_is (set xs i e) b (b + c) ∙ ap (drop b) (take-set-le (b + c) xs i e g) ∙ sym (between_is xs b (b + c))
 
 -- clearing a part that lies before or after another leaves the other
 between_cleared : {X : Type 0} (b c a k : ℕ) (z : X) (bank : List X) → a + k ≤ length bank → (a + k ≤ b) ⊎ (b + c ≤ a)
@@ -30,12 +37,10 @@ alone_put : {X : Type 0} (r s : Layout) (bank : List X) (e : X) → Sound r → 
     → (a : Result (Unit {0}) RingError) → put_answer r bank ≡ a → held s (stored a r e bank) ≡ held s bank
 alone_put r s bank e k apart (Err why) q = refl
 alone_put r s bank e k apart (Ok u) q =
-    let room : r.count < r.capacity = (can_put r bank u k.within k.counted q).room in
-    let first : r.first < r.capacity = omega (arith, k.within) in
-    let p : around r.first r.count r.capacity < r.capacity = around_below r.first r.count r.capacity first k.counted in
-    let out : (next_cell r < s.base) ⊎ (s.base + s.capacity ≤ next_cell r) =
-    elim apart [ inl h ↦ inl (omega arith) | inr h ↦ inr (omega arith) ] in
-    ap (λ part. contents part s.first s.count) (between_set_other s.base s.capacity bank (next_cell r) e out)
+    let can = can_put r bank u k.within k.counted q in
+    let p = around_below r.first r.count r.capacity (omega (arith, k.within, can.room)) k.counted in
+    ap (λ part. contents part s.first s.count)
+    (between_set_other s.base s.capacity bank (next_cell r) e (elim apart [ inl h ↦ inl (omega arith) | inr h ↦ inr (omega arith) ]))
 
 alone_clear : {X : Type 0} (r s : Layout) (bank : List X) (e : X) → Apart r s
     → (b : Bool) → covers r bank ≡ b → held s (wiped (cond b (Ok tt) (Err ShortBank)) r e bank) ≡ held s bank

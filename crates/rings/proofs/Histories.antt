@@ -1,5 +1,5 @@
 -- Puts and takes, one after another on one bank, keep a ring in order.
-use Rattle.std.proofs.Common.{◌≡◌, ℕ, suc, ◌+◌, ◌%◌, List, [], ◌∷◌, ◌++◌, length, drop, set, Ok, Err, Result, sym, refl, ap, ◌∙◌, subst, arith}
+use Rattle.std.proofs.Common.{◌≡◌, ℕ, suc, ◌+◌, ◌%◌, List, [], ◌∷◌, ◌++◌, length, set, Ok, Err, Result, sym, refl, ap, ◌∙◌, subst, arith}
 use Rattle.std.specs.List.{between}
 use Rattle.std.proofs.lemmas.List.{length_push, append_assoc}
 use Rattle.rings.specs.declared.ring.RingError.{RingError}
@@ -32,14 +32,8 @@ kept_put base capacity bank h e k (Ok u) q =
     let can = can_put l h.bank u k.turns.starts k.turns.below q in
     record {
       turns = subst (λ n. Turned base capacity n (length h.taken) (did_put h e (Ok u)).ring) (sym (length_push h.accepted e)) (turned_put l k.turns can.room);
-      order =
-          ap (λ xs. xs ++ (e ∷ [])) k.order ∙ append_assoc h.taken (held l h.bank) (e ∷ [])
-          ∙ ap (λ xs. h.taken ++ xs) (sym (held_put l h.bank e can.fits k.turns.starts can.room));
-      places =
-          ap (λ i. set h.bank i e) (next_is l k.turns)
-          ∙ ap (λ xs. set xs (base + length h.accepted % capacity) e) k.places
-          ∙ ap (λ i. set (placed base capacity 0 h.accepted bank) (base + i % capacity) e) (let z : length h.accepted ≡ 0 + length h.accepted = omega arith in z)
-          ∙ sym (placed_push base capacity 0 h.accepted e bank);
+      order = rw (held_put l h.bank e can.fits k.turns.starts can.room, ← append_assoc) (ap (λ xs. xs ++ (e ∷ [])) k.order);
+      places = grind (arith, next_is l k.turns, k.places, placed_push base capacity 0 h.accepted e bank);
     }
 
 kept_take : {X : Type 0} (base capacity : ℕ) (bank : List X) (h : History X) → Kept base capacity bank h
@@ -48,13 +42,9 @@ kept_take base capacity bank h k (Err why) q = k
 kept_take base capacity bank h k (Ok e) q =
     let l = h.ring in
     let can = can_take l h.bank e q in
-    let rest : drop 1 (held l h.bank) ≡ held (one_less l) h.bank =
-    ap (drop 1) (held_take l h.bank e can.fits k.turns.starts can.some k.turns.below) in
     record {
       turns = subst (λ n. Turned base capacity (length h.accepted) n (one_less l)) (sym (length_push h.taken e)) (turned_take l k.turns can.some);
-      order =
-          k.order ∙ ap (λ xs. h.taken ++ xs) (can.oldest ∙ ap (λ xs. e ∷ xs) rest)
-          ∙ sym (append_assoc h.taken (e ∷ []) (held (one_less l) h.bank));
+      order = grind (arith, k.order, can.oldest, held_take l h.bank e can.fits k.turns.starts can.some k.turns.below, append_assoc);
       places = k.places;
     }
 
@@ -71,7 +61,7 @@ kept_after base capacity bank h (o ∷ os) k = kept_after base capacity bank (st
 kept_begun : {X : Type 0} (base capacity : ℕ) (bank : List X) → Kept base capacity bank (begun (fresh base capacity) bank)
 kept_begun base capacity bank = record {
   turns = turned_fresh base capacity;
-  order = sym (contents_none (between base (base + capacity) bank) 0);
+  order = sym (contents_none (between base (base + capacity) bank) 0 0 refl);
   places = refl;
 }
 

@@ -1,4 +1,3 @@
-pub mod Contents
 pub mod Holding
 pub mod Turns
 pub mod Histories

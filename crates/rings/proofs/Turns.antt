@@ -1,14 +1,11 @@
 -- What a granted put and a granted take need and leave of a ring's numbers.
-use Rattle.std.proofs.Common.{◌≡◌, ℕ, suc, ◌+◌, ◌-◌, ◌%◌, ◌<◌, ◌≤◌, Bool, true, false, cond, ltb, List, [], ◌∷◌, length, drop, Ok, Err, Result, sym, refl, ap, ◌∙◌, arith, ltb-true, leb-true}
+use Rattle.std.proofs.Common.{◌≡◌, ℕ, ◌+◌, ◌-◌, ◌%◌, ◌<◌, ◌≤◌, List, [], ◌∷◌, length, drop, Ok, Err, Result, sym, refl, ap, ◌∙◌, arith}
 use native.Mathlib.Nat.{mod-add-mod, zero-mod}
 use Rattle.rings.specs.declared.ring.RingError.{RingError}
-use Rattle.rings.specs.declared.ring.RingError.TheVariants.{ShortBank, Full}
-use Rattle.rings.specs.Contents.{around}
-use Rattle.rings.specs.Layouts.{Layout, fresh, covers, held, next_cell, one_more, one_less}
-use Rattle.rings.specs.Answers.{oldest_of, put_answer, take_answer}
+use Rattle.rings.specs.Layouts.{Layout, fresh, held, next_cell, one_more, one_less}
+use Rattle.rings.specs.Answers.{put_answer, take_answer}
 use Rattle.rings.specs.Laws.{Operation, putting, taking, Call, Tally, counted_put, counted_take, counted, tally, Turns}
-use Rattle.rings.proofs.Contents.{around_below}
-use Rattle.rings.proofs.Holding.{length_held, held_most}
+use Rattle.rings.proofs.Holding.{around_below, length_held, held_most}
 
 -- a ring's numbers after so many puts and takes
 pub record Turned (base capacity puts takes : ℕ) (l : Layout) : Type 0 where
@@ -31,28 +28,7 @@ turned_fresh base capacity = record {
 
 pub next_is : {base capacity puts takes : ℕ} (l : Layout) → Turned base capacity puts takes l → next_cell l ≡ base + puts % capacity
 next_is {base = base} {capacity = capacity} {puts = puts} {takes = takes} l k =
-    ap (λ f. l.base + (f + l.count) % l.capacity) k.turned
-    ∙ ap (λ m. l.base + m) (mod-add-mod takes l.capacity l.count)
-    ∙ ap (λ m. l.base + m % l.capacity) (sym k.counts)
-    ∙ ap (λ b. b + puts % l.capacity) k.lies
-    ∙ ap (λ n. base + puts % n) k.size
-
-never : {X : Type 0} → ◌≡◌ {A = ℕ} 0 1 → X
-never z = absurd (let f : ⊥ = omega arith in f)
-
--- a put that is granted has its cells and room
-granted : (a b : Bool) (u : Unit {0}) → ◌≡◌ {A = Result (Unit {0}) RingError} (cond a (cond b (Ok tt) (Err Full)) (Err ShortBank)) (Ok u)
-    → (a ≡ true) × (b ≡ true)
-granted true true u q = (refl, refl)
-granted true false u q = never (cc)
-granted false b u q = never (cc)
-
--- a take that is granted has its cells and an element
-gave : {X : Type 0} (a : Bool) (xs : List X) (e : X) → ◌≡◌ {A = Result X RingError} (cond a (oldest_of xs) (Err ShortBank)) (Ok e)
-    → (a ≡ true) × (xs ≡ e ∷ drop 1 xs)
-gave true [] e q = never (cc)
-gave true (x ∷ xs) e q = (refl, cc)
-gave false xs e q = never (cc)
+    grind (arith, mod-add-mod takes l.capacity l.count)
 
 pub record CanPut {X : Type 0} (l : Layout) (bank : List X) : Type 0 where
   pub fits : l.base + l.capacity ≤ length bank
@@ -60,12 +36,7 @@ pub record CanPut {X : Type 0} (l : Layout) (bank : List X) : Type 0 where
 
 pub can_put : {X : Type 0} (l : Layout) (bank : List X) (u : Unit {0}) → l.first ≤ l.capacity - 1 → l.count ≤ l.capacity
     → put_answer l bank ≡ Ok u → CanPut l bank
-can_put l bank u starts below q =
-    let yes = granted (covers l bank) (ltb (length (held l bank)) l.capacity) u q in
-    let fits : l.base + l.capacity ≤ length bank = omega (arith, leb-true, yes.0) in
-    let some : length (held l bank) < l.capacity = omega (arith, ltb-true, yes.1) in
-    let n = length_held l bank fits starts below in
-    record { fits = fits; room = omega arith }
+can_put l bank u starts below q = record { fits = grind arith; room = grind (arith, length_held l bank) }
 
 pub record CanTake {X : Type 0} (l : Layout) (bank : List X) (e : X) : Type 0 where
   pub fits : l.base + l.capacity ≤ length bank
@@ -73,11 +44,7 @@ pub record CanTake {X : Type 0} (l : Layout) (bank : List X) (e : X) : Type 0 wh
   pub oldest : held l bank ≡ e ∷ drop 1 (held l bank)
 
 pub can_take : {X : Type 0} (l : Layout) (bank : List X) (e : X) → take_answer l bank ≡ Ok e → CanTake l bank e
-can_take l bank e q =
-    let yes = gave (covers l bank) (held l bank) e q in
-    let n : length (held l bank) ≡ suc (length (drop 1 (held l bank))) = ap length yes.1 in
-    let m = held_most l bank in
-    record { fits = omega (arith, leb-true, yes.0); some = omega arith; oldest = yes.1 }
+can_take l bank e q = record { fits = grind arith; some = grind (arith, held_most l bank); oldest = grind arith }
 
 pub turned_put : {base capacity puts takes : ℕ} (l : Layout) → Turned base capacity puts takes l → l.count < l.capacity
     → Turned base capacity (puts + 1) takes (one_more l)
@@ -93,9 +60,7 @@ turned_put l k room = record {
 pub turned_take : {base capacity puts takes : ℕ} (l : Layout) → Turned base capacity puts takes l → 0 < l.count
     → Turned base capacity puts (takes + 1) (one_less l)
 turned_take {takes = takes} l k some =
-    let first : l.first < l.capacity = omega (arith, k.starts, k.below) in
-    let one : 1 ≤ l.capacity = omega arith in
-    let next : around l.first 1 l.capacity < l.capacity = around_below l.first 1 l.capacity first one in
+    let next = around_below l.first 1 l.capacity (omega (arith, k.starts, k.below)) (omega (arith, k.below)) in
     record {
       lies = k.lies;
       size = k.size;

@@ -49,6 +49,7 @@ impl Ring {
     }
 
     // Buffers an element.
+    #[tactic(auto, using(crate::proofs::Holding::length_held, crate::proofs::Holding::held_put))]
     pub fn put<E: Element>(&mut self, bank: &mut [E], e: E) -> Result<(), RingError>
         ensures answer { result ≡ put_answer self.old bank.old }
         ensures ring { self.new ≡ grown result self.old }
@@ -67,6 +68,7 @@ impl Ring {
     }
 
     // Takes the oldest element out. Its cell is left as it is.
+    #[tactic(auto, using(crate::proofs::Holding::contents_none, crate::proofs::Holding::held_take))]
     pub fn take<E: Element>(&mut self, bank: &[E]) -> Result<E, RingError>
         ensures answer { result ≡ take_answer self.old bank.now }
         ensures ring { self.new ≡ shrunk result self.old }
@@ -85,6 +87,7 @@ impl Ring {
     }
 
     // The element at a place, 0 the oldest.
+    #[tactic(auto, using(crate::proofs::Holding::length_held, crate::proofs::Holding::get_or_held, crate::proofs::Holding::at_place_get_or, crate::proofs::Holding::at_place_past))]
     pub fn look<E: Element>(&self, bank: &[E], place: usize) -> Result<E, RingError>
         ensures { result ≡ look_answer self.now bank.now place }
     {
@@ -98,6 +101,7 @@ impl Ring {
     }
 
     // Sets the cells of the ring, and no other cell, to the zero element, and begins afresh.
+    #[tactic(auto, using(crate::proofs::Holding::contents_none))]
     pub fn clear<E: Element>(&mut self, bank: &mut [E]) -> Result<(), RingError>
         ensures answer { result ≡ clear_answer self.old bank.old }
         ensures ring { self.new ≡ emptied result self.old }
