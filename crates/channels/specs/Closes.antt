@@ -1,5 +1,5 @@
 -- Closing.
-use Rattle.std.specs.Prelude.{ℕ, Bool, cond, List, [], ◌∷◌, ◌++◌, Ok, Err, Result}
+use Rattle.std.specs.Prelude.{ℕ, Bool, cond, List, [], ◌∷◌, ◌++◌, Ok, Err, Result, nat_le}
 use Rattle.waiting.specs.declared.wish.Entry.{Entry}
 use Rattle.waiting.specs.declared.wish.Side.TheVariants.{Receivers, Senders}
 use Rattle.waiting.specs.Lines.{State}
@@ -34,6 +34,6 @@ freed_at c st = freed c.number st.line st.table
 abbrev pub line_closed : {X : Type 0} → Channel → State X → State X
 line_closed c st = record st { line = without_all (freed_at c st) st.line }
 
--- how many a close releases
-abbrev pub closing : Bool → Bool → ℕ → Result ℕ CloseError
-closing closed room n = cond closed (Err AlreadyClosed) (cond room (Ok n) (Err NoRoom))
+-- how many a close releases, where there is room to note so many
+abbrev pub closing : Bool → ℕ → ℕ → Result ℕ CloseError
+closing closed room n = cond closed (Err AlreadyClosed) (cond (nat_le 64 room) (Ok n) (Err NoRoom))

@@ -92,5 +92,5 @@ unfilled number base capacity = record { channel = record { number = number; rin
 abbrev pub NthCell : Type 0 → Type 0 → Type 0
 NthCell E X =
     (f : X → E) (z : E) (number base capacity : ℕ) (ks : List (Turn E X)) (k : Turn E X)
-    → cells_by f z (filled f z (unfilled number base capacity) ks).channel.ring (met (filled f z (unfilled number base capacity) ks).channel k) k.act k.bank
-    ≡ placed base capacity (filled f z (unfilled number base capacity) ks).puts (buffered_by f z (met (filled f z (unfilled number base capacity) ks).channel k) k.act) k.bank
+    → let t : Filling = filled f z (unfilled number base capacity) ks in
+    cells_by f z t.channel.ring (met t.channel k) k.act k.bank ≡ placed base capacity t.puts (buffered_by f z (met t.channel k) k.act) k.bank

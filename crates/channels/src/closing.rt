@@ -1,5 +1,5 @@
 // Closing a channel: all who wait at it are released.
-ghost use Rattle.std.specs.Prelude.{◌≡◌, ◌+◌, ◌-◌, ◌≤◌, ◌++◌, length, is_ok, if◌then◌else◌, vec_len, vec_capacity, nat_le};
+ghost use Rattle.std.specs.Prelude.{◌≡◌, ◌+◌, ◌-◌, ◌≤◌, ◌++◌, length, is_ok, if◌then◌else◌, vec_len, vec_capacity};
 ghost use Rattle.channels.specs.Closes.{freed_at, line_closed, closing};
 ghost use Rattle.channels.specs.Seen.{shut};
 
@@ -28,7 +28,7 @@ impl Channel {
         waiting: &mut Waiting<X>,
         freed: &mut Vec<Entry<X>>,
     ) -> Result<usize, CloseError>
-        ensures answer { result ≡ closing self.old.closed (nat_le 64 (vec_capacity freed.old - vec_len freed.old)) (length (freed_at self.old waiting.old)) }
+        ensures answer { result ≡ closing self.old.closed (vec_capacity freed.old - vec_len freed.old) (length (freed_at self.old waiting.old)) }
         ensures channel { self.new ≡ (if is_ok result then shut self.old else self.old) }
         ensures items { freed.new.items ≡ (if is_ok result then freed.old.items ++ freed_at self.old waiting.old else freed.old.items) }
         ensures line { waiting.new ≡ (if is_ok result then line_closed self.old waiting.old else waiting.old) }

@@ -24,6 +24,7 @@ pub fn channels_keep_order<E: Element, X: Copy>()
 
 // Along any list of sends, receives and closes on a new channel, whatever cells and queues each of them meets: the n-th
 // element that it buffers is written n mod capacity cells after its base, and nothing else is written.
+#[tactic(auto, using(crate::proofs::Places::nth_cell))]
 pub fn channels_keep_places<E: Element, X: Copy>()
     ensures { NthCell E X }
 {}
