@@ -86,7 +86,11 @@ filled f z t [] = t
 filled f z t (k ∷ ks) = filled f z (filled_by f z t (met t.channel k) k.act) ks
 
 abbrev pub unfilled : ℕ → ℕ → ℕ → Filling
-unfilled number base capacity = record { channel = record { number = number; ring = fresh base capacity; closed = false }; puts = 0; takes = 0 }
+unfilled number base capacity = record {
+  channel = record { number = number; ring = fresh base capacity; closed = false };
+  puts = 0;
+  takes = 0;
+}
 
 -- after any list of acts on a new channel: the next one writes what it buffers there, and nothing else
 abbrev pub NthCell : Type 0 → Type 0 → Type 0

@@ -37,7 +37,8 @@ seen c bank st = told c bank (queued Receivers c st) (queued Senders c st)
 
 -- a new channel is open and holds nothing; there is none of more than 64 cells or past the end of all banks
 abbrev pub new_channel : ℕ → ℕ → ℕ → Option Channel
-new_channel number base capacity = cond (can_lie base capacity) (Some (record { number = number; ring = fresh base capacity; closed = false })) None
+new_channel number base capacity =
+    cond (can_lie base capacity) (Some (record { number = number; ring = fresh base capacity; closed = false })) None
 
 abbrev pub shut : Channel → Channel
 shut c = record c { closed = true }

@@ -44,4 +44,6 @@ JoiningSettles E X =
 
 -- after a close nobody waits at the channel
 abbrev pub ClosingFreesAll : Type 0 → Type 0
-ClosingFreesAll X = (s : Side) (c : ℕ) (line : List ℕ) (table : List (Row X)) → queue s c (without_all (freed c line table) line) table ≡ []
+ClosingFreesAll X =
+    (s : Side) (c : ℕ) (line : List ℕ) (table : List (Row X))
+    → queue s c (without_all (freed c line table) line) table ≡ []

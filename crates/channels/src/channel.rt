@@ -5,7 +5,8 @@ use elements::Element;
 use rings::Ring;
 use waiting::Entry;
 
-// The buffer of a channel, and whether it was closed. Who waits at it stands in the waiting line, under its number.
+// The buffer of a channel, and whether it was closed. Who waits at it stands in the waiting line, under its number. The
+// line and a bank are lent to each call apart: one line serves the channels of every kind, a bank those of one.
 #[derive(Clone, Copy)]
 pub struct Channel {
     pub(crate) number: u32,
@@ -13,7 +14,8 @@ pub struct Channel {
     pub(crate) closed: bool,
 }
 
-// What a waiting sender offers holds an element of the kind.
+// What a waiting sender offers holds an element of the kind. `Into` says by a relation what it gives, and a rule needs
+// the element itself.
 pub trait Carries<E: Element>: Copy {
     ghost carried: { Self → E };
 

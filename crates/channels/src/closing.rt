@@ -36,9 +36,10 @@ impl Channel {
         if self.closed {
             return Err(CloseError::AlreadyClosed);
         }
-        if freed.capacity().saturating_sub(freed.len()) < 64 {
+        if freed.capacity() - freed.len() < 64 {
             return Err(CloseError::NoRoom);
         }
+        // So all who wait can be noted.
         prove!(waiting.len() <= 64);
         let count = self.release_all(waiting, freed);
         self.closed = true;
