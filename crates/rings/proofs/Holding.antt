@@ -1,14 +1,13 @@
 -- Which cell of the bank has which element held, and what is held after a put and after a take.
-use Rattle.std.proofs.Common.{◌≡◌, ℕ, zero, suc, ◌+◌, ◌-◌, ◌<◌, ◌≤◌, ◌⊎◌, List, [], ◌∷◌, ◌++◌, length, get_or, take, drop, set, Ok, Err, refl, ap, ◌∙◌, inl, inr, mod-eq_of_lt, arith, length-append, length-drop, length-set, get_or-drop, get_or-take}
+use Rattle.std.proofs.Common.{◌≡◌, ℕ, ◌+◌, ◌-◌, ◌<◌, ◌≤◌, ◌⊎◌, List, [], ◌∷◌, ◌++◌, length, get_or, take, drop, set, refl, ap, ◌∙◌, inl, inr, mod-eq_of_lt, arith, length-append, length-drop, length-set, get_or-drop, get_or-take}
 use native.Mathlib.Nat.{mod-eq-sub-mod, mod-add-mod}
 use Rattle.std.specs.List.{between}
 use Rattle.std.proofs.lemmas.List.{same_lists, length-take, get_or_append_left, get_or-append_right}
 use Rattle.std.proofs.lemmas.List.Edits.{length-between, get_or-between}
 use Rattle.std.proofs.lemmas.Bool.{cases_lt}
+use Rattle.std.proofs.lemmas.Option.{slice_get-get_or, slice_get_past}
 use Rattle.std.proofs.lemmas.Grind.{common_steps}
 use Rattle.rings.specs.Contents.{around, contents}
-use Rattle.rings.specs.declared.ring.RingError.TheVariants.{NoSuchPlace}
-use Rattle.rings.specs.Answers.{at_place}
 use Rattle.rings.specs.Layouts.{Layout, held, next_cell, one_more, one_less}
 
 -- the cell at an offset, with and without going round
@@ -86,12 +85,4 @@ held_take l bank x fits starts some below =
     ))
 
 -- the element at a place that is there, and at one that is not
-pub at_place_get_or : {X : Type 0} (xs : List X) (n : ℕ) (d : X) → n < length xs → at_place xs n ≡ Ok (get_or xs n d)
-at_place_get_or [] n d h = absurd (let z : ⊥ = omega arith in z)
-at_place_get_or (x ∷ xs) zero d h = refl
-at_place_get_or (x ∷ xs) (suc n) d h = at_place_get_or xs n d (omega arith)
-
-pub at_place_past : {X : Type 0} (xs : List X) (n : ℕ) → length xs ≤ n → at_place xs n ≡ Err NoSuchPlace
-at_place_past [] n h = refl
-at_place_past (x ∷ xs) zero h = absurd (let z : ⊥ = omega arith in z)
-at_place_past (x ∷ xs) (suc n) h = at_place_past xs n (omega arith)
+pub ruleset places = (length_held, get_or_held, slice_get-get_or, slice_get_past)

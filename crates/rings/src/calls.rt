@@ -87,7 +87,7 @@ impl Ring {
     }
 
     // The element at a place, 0 the oldest.
-    #[tactic(auto, using(crate::proofs::Holding::length_held, crate::proofs::Holding::get_or_held, crate::proofs::Holding::at_place_get_or, crate::proofs::Holding::at_place_past))]
+    #[tactic(auto, using(crate::proofs::Holding::places))]
     pub fn look<E: Element>(&self, bank: &[E], place: usize) -> Result<E, RingError>
         ensures { result ≡ look_answer self.now bank.now place }
     {
