@@ -8,8 +8,7 @@ use Rattle.rings.specs.Contents.{cleared}
 use Rattle.rings.specs.Layouts.{Layout, fresh, covers, held, next_cell, one_more, one_less}
 
 abbrev pub oldest_of : {X : Type 0} → List X → Result X RingError
-oldest_of [] = Err Empty
-oldest_of (x ∷ xs) = Ok x
+oldest_of xs = ok_or (slice_get xs 0) Empty
 
 -- place 0 is the oldest
 abbrev pub at_place : {X : Type 0} → List X → ℕ → Result X RingError
