@@ -3,15 +3,14 @@ use Rattle.std.proofs.Common.{◌≡◌, ℕ, ◌+◌, ◌-◌, ◌<◌, ◌≤�
 use borrow.Rule.Slice.PartMut.{put_mid}
 use Rattle.std.specs.List.{between}
 use Rattle.std.proofs.lemmas.List.{drop-drop, length-replicate, take-set-le, drop-set-lt}
+use Rattle.std.proofs.lemmas.Nat.{mod_below}
 use Rattle.std.proofs.lemmas.Slice.{between_is, take-put_mid_below, drop-put_mid}
 use Rattle.rings.specs.declared.ring.RingError.{RingError}
 use Rattle.rings.specs.declared.ring.RingError.TheVariants.{ShortBank}
 use Rattle.rings.specs.Contents.{contents, cleared}
-use Rattle.rings.specs.Layouts.{Layout, Sound, covers, held, next_cell}
+use Rattle.rings.specs.Layouts.{Layout, covers, held, next_cell}
 use Rattle.rings.specs.Answers.{put_answer, stored, wiped}
 use Rattle.rings.specs.Laws.{Apart, LeftAlone}
-use Rattle.rings.proofs.Holding.{around_below}
-use Rattle.rings.proofs.Turns.{can_put}
 
 -- a write outside a part leaves the part
 between_set_other : {X : Type 0} (b c : ℕ) (xs : List X) (i : ℕ) (e : X) → (i < b) ⊎ (b + c ≤ i)
@@ -33,12 +32,11 @@ between_cleared b c a k z bank fits (inr h) =
     ∙ ap (drop b) (take-put_mid_below a k bank (replicate k z) (b + c) h (omega arith))
     ∙ sym (between_is bank b (b + c))
 
-alone_put : {X : Type 0} (r s : Layout) (bank : List X) (e : X) → Sound r → Apart r s
+alone_put : {X : Type 0} (r s : Layout) (bank : List X) (e : X) → Apart r s
     → (a : Result (Unit {0}) RingError) → put_answer r bank ≡ a → held s (stored a r e bank) ≡ held s bank
-alone_put r s bank e k apart (Err why) q = refl
-alone_put r s bank e k apart (Ok u) q =
-    let can = can_put r bank u k.within k.counted q in
-    let p = around_below r.first r.count r.capacity (omega (arith, k.within, can.room)) k.counted in
+alone_put r s bank e apart (Err why) q = refl
+alone_put r s bank e apart (Ok u) q =
+    let p = mod_below (r.first + r.count) r.capacity (grind arith) in
     ap (λ part. contents part s.first s.count)
     (between_set_other s.base s.capacity bank (next_cell r) e (elim apart [ inl h ↦ inl (omega arith) | inr h ↦ inr (omega arith) ]))
 
@@ -49,8 +47,8 @@ alone_clear r s bank e apart true q =
     ap (λ part. contents part s.first s.count)
     (between_cleared s.base s.capacity r.base r.capacity e bank (omega (arith, leb-true)) apart)
 
-pub stays_apart : {X : Type 0} (r s : Layout) (bank : List X) (e : X) → Sound r → Apart r s → LeftAlone r s bank e
-stays_apart r s bank e k apart = record {
-  by_put = alone_put r s bank e k apart (put_answer r bank) refl;
+pub stays_apart : {X : Type 0} (r s : Layout) (bank : List X) (e : X) → Apart r s → LeftAlone r s bank e
+stays_apart r s bank e apart = record {
+  by_put = alone_put r s bank e apart (put_answer r bank) refl;
   by_clear = alone_clear r s bank e apart (covers r bank) refl;
 }

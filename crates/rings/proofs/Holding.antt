@@ -1,14 +1,14 @@
 -- Which cell of the bank has which element held, and what is held after a put and after a take.
-use Rattle.std.proofs.Common.{◌≡◌, ℕ, zero, suc, ◌+◌, ◌-◌, ◌<◌, ◌≤◌, ◌⊎◌, List, [], ◌∷◌, ◌++◌, length, get_or, take, drop, set, Ok, Err, refl, ap, ◌∙◌, inl, inr, mod-eq_of_lt, arith, length-append, length-drop, length-set, get_or-drop, get_or-take}
+use Rattle.std.proofs.Common.{◌≡◌, ℕ, ◌+◌, ◌-◌, ◌<◌, ◌≤◌, ◌⊎◌, List, [], ◌∷◌, ◌++◌, length, get_or, take, drop, set, ap, ◌∙◌, inl, inr, mod-eq_of_lt, arith, length-append, length-drop, length-set, get_or-drop, get_or-take}
 use native.Mathlib.Nat.{mod-eq-sub-mod, mod-add-mod}
 use Rattle.std.specs.List.{between}
 use Rattle.std.proofs.lemmas.List.{same_lists, length-take, get_or_append_left, get_or-append_right}
 use Rattle.std.proofs.lemmas.List.Edits.{length-between, get_or-between}
 use Rattle.std.proofs.lemmas.Bool.{cases_lt}
+use Rattle.std.proofs.lemmas.Nat.{mod_below}
+use Rattle.std.proofs.lemmas.Option.{slice_get-get_or, slice_get_past}
 use Rattle.std.proofs.lemmas.Grind.{common_steps}
 use Rattle.rings.specs.Contents.{around, contents}
-use Rattle.rings.specs.declared.ring.RingError.TheVariants.{NoSuchPlace}
-use Rattle.rings.specs.Answers.{at_place}
 use Rattle.rings.specs.Layouts.{Layout, held, next_cell, one_more, one_less}
 
 -- the cell at an offset, with and without going round
@@ -17,9 +17,6 @@ around_cases f k n hf hk = elim (cases_lt (f + k) n) [
   | inl l ↦ inl (l, mod-eq_of_lt l)
   | inr h ↦ inr (h, mod-eq-sub-mod h ∙ mod-eq_of_lt (omega arith))
 ]
-
-pub around_below : (f k n : ℕ) → f < n → k ≤ n → around f k n < n
-around_below f k n hf hk = grind (arith, around_cases f k n hf hk)
 
 -- nothing is held where nothing is counted
 pub contents_none : {X : Type 0} (part : List X) (first count : ℕ) → count ≡ 0 → contents part first count ≡ []
@@ -73,7 +70,7 @@ held_put l bank e fits starts room =
 pub held_take : {X : Type 0} (l : Layout) (bank : List X) (x : X) → l.base + l.capacity ≤ length bank → l.first ≤ l.capacity - 1 → 0 < l.count → l.count ≤ l.capacity
     → held l bank ≡ get_or bank (l.base + l.first) x ∷ held (one_less l) bank
 held_take l bank x fits starts some below =
-    let next = around_below l.first 1 l.capacity (omega arith) (omega arith) in
+    let next = mod_below (l.first + 1) l.capacity (omega arith) in
     let before = length_held l bank fits starts below in
     let after = length_held (one_less l) bank fits (omega arith) (omega arith) in
     same_lists _ _ (grind (arith, common_steps)) (λ k d h. grind (
@@ -86,12 +83,4 @@ held_take l bank x fits starts some below =
     ))
 
 -- the element at a place that is there, and at one that is not
-pub at_place_get_or : {X : Type 0} (xs : List X) (n : ℕ) (d : X) → n < length xs → at_place xs n ≡ Ok (get_or xs n d)
-at_place_get_or [] n d h = absurd (let z : ⊥ = omega arith in z)
-at_place_get_or (x ∷ xs) zero d h = refl
-at_place_get_or (x ∷ xs) (suc n) d h = at_place_get_or xs n d (omega arith)
-
-pub at_place_past : {X : Type 0} (xs : List X) (n : ℕ) → length xs ≤ n → at_place xs n ≡ Err NoSuchPlace
-at_place_past [] n h = refl
-at_place_past (x ∷ xs) zero h = absurd (let z : ⊥ = omega arith in z)
-at_place_past (x ∷ xs) (suc n) h = at_place_past xs n (omega arith)
+pub ruleset places = (length_held, get_or_held, slice_get-get_or, slice_get_past)

@@ -1,11 +1,14 @@
 -- What a granted put and a granted take need and leave of a ring's numbers.
 use Rattle.std.proofs.Common.{◌≡◌, ℕ, ◌+◌, ◌-◌, ◌%◌, ◌<◌, ◌≤◌, List, [], ◌∷◌, length, drop, Ok, Err, Result, sym, refl, ap, ◌∙◌, arith}
 use native.Mathlib.Nat.{mod-add-mod, zero-mod}
+use Rattle.std.proofs.lemmas.List.{drop_more}
+use Rattle.std.proofs.lemmas.Nat.{mod_below}
+use Rattle.std.proofs.lemmas.Option.{slice_get_within}
 use Rattle.rings.specs.declared.ring.RingError.{RingError}
 use Rattle.rings.specs.Layouts.{Layout, fresh, held, next_cell, one_more, one_less}
 use Rattle.rings.specs.Answers.{put_answer, take_answer}
 use Rattle.rings.specs.Laws.{Operation, putting, taking, Call, Tally, counted_put, counted_take, counted, tally, Turns}
-use Rattle.rings.proofs.Holding.{around_below, length_held, held_most}
+use Rattle.rings.proofs.Holding.{length_held, held_most}
 
 -- a ring's numbers after so many puts and takes
 pub record Turned (base capacity puts takes : ℕ) (l : Layout) : Type 0 where
@@ -44,7 +47,7 @@ pub record CanTake {X : Type 0} (l : Layout) (bank : List X) (e : X) : Type 0 wh
   pub oldest : held l bank ≡ e ∷ drop 1 (held l bank)
 
 pub can_take : {X : Type 0} (l : Layout) (bank : List X) (e : X) → take_answer l bank ≡ Ok e → CanTake l bank e
-can_take l bank e q = record { fits = grind arith; some = grind (arith, held_most l bank); oldest = grind arith }
+can_take l bank e q = record { fits = grind arith; some = grind (arith, held_most l bank, slice_get_within (held l bank) 0); oldest = grind (arith, slice_get_within (held l bank) 0, drop_more (held l bank) 0 e) }
 
 pub turned_put : {base capacity puts takes : ℕ} (l : Layout) → Turned base capacity puts takes l → l.count < l.capacity
     → Turned base capacity (puts + 1) takes (one_more l)
@@ -60,7 +63,7 @@ turned_put l k room = record {
 pub turned_take : {base capacity puts takes : ℕ} (l : Layout) → Turned base capacity puts takes l → 0 < l.count
     → Turned base capacity puts (takes + 1) (one_less l)
 turned_take {takes = takes} l k some =
-    let next = around_below l.first 1 l.capacity (omega (arith, k.starts, k.below)) (omega (arith, k.below)) in
+    let next = mod_below (l.first + 1) l.capacity (omega (arith, k.below)) in
     record {
       lies = k.lies;
       size = k.size;

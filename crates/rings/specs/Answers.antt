@@ -1,19 +1,18 @@
 -- What each call answers, in terms of the elements held, and what its answer says of the ring and the bank afterwards.
-use Rattle.std.specs.Prelude.{ℕ, zero, suc, cond, List, [], ◌∷◌, ◌++◌, length, drop, is_ok, Ok, Err, Result, nat_lt, slice_set}
+use Rattle.std.specs.Prelude.{ℕ, cond, List, [], ◌∷◌, ◌++◌, length, drop, is_ok, Ok, Err, Result, nat_lt, slice_set}
+use Rattle.std.specs.List.{slice_get}
+use Rattle.std.specs.Option.{ok_or}
 use Rattle.rings.specs.declared.ring.RingError.{RingError}
 use Rattle.rings.specs.declared.ring.RingError.TheVariants.{ShortBank, Full, Empty, NoSuchPlace}
 use Rattle.rings.specs.Contents.{cleared}
 use Rattle.rings.specs.Layouts.{Layout, fresh, covers, held, next_cell, one_more, one_less}
 
 abbrev pub oldest_of : {X : Type 0} → List X → Result X RingError
-oldest_of [] = Err Empty
-oldest_of (x ∷ xs) = Ok x
+oldest_of xs = ok_or (slice_get xs 0) Empty
 
 -- place 0 is the oldest
 abbrev pub at_place : {X : Type 0} → List X → ℕ → Result X RingError
-at_place [] n = Err NoSuchPlace
-at_place (x ∷ xs) zero = Ok x
-at_place (x ∷ xs) (suc n) = at_place xs n
+at_place xs n = ok_or (slice_get xs n) NoSuchPlace
 
 abbrev pub put_answer : {X : Type 0} → Layout → List X → Result (Unit {0}) RingError
 put_answer l bank = cond (covers l bank) (cond (nat_lt (length (held l bank)) l.capacity) (Ok tt) (Err Full)) (Err ShortBank)

@@ -103,4 +103,4 @@ pub record LeftAlone {X : Type 0} (l m : Layout) (bank : List X) (e : X) : Type 
   pub by_clear : held m (wiped (clear_answer l bank) l e bank) ≡ held m bank
 
 abbrev pub StaysApart : Type 0 → Type 0
-StaysApart X = (l m : Layout) (bank : List X) (e : X) → Sound l → Apart l m → LeftAlone l m bank e
+StaysApart X = (l m : Layout) (bank : List X) (e : X) → Apart l m → LeftAlone l m bank e

@@ -7,7 +7,8 @@ ghost use Rattle.rings.specs.Answers.{put_answer, take_answer, look_answer, clea
 use crate::ring::{Ring, RingError};
 use elements::Element;
 
-// Sets each cell to the zero element. A loop: `fill` asks for a clone that cannot fail, which no kind owes.
+// Sets each cell to the zero element. A loop: `fill` asks for a clone that cannot fail, which no kind owes, and
+// `for_each` tells nothing of the cells afterwards.
 fn zero_all<E: Element>(cells: &mut [E])
     ensures { cells.new ≡ replicate (length cells.old) E.nought }
 {
@@ -31,7 +32,7 @@ impl Ring {
         self.count >= self.capacity
     }
 
-    // Whether a bank has all cells of the ring.
+    // Whether a bank has all cells of the ring; and what is true of every ring.
     pub fn lies_in<E: Element>(&self, bank: &[E]) -> bool
         ensures covers { result ≡ covers self.now bank.now }
         ensures sound { Sound self.now }
@@ -87,7 +88,7 @@ impl Ring {
     }
 
     // The element at a place, 0 the oldest.
-    #[tactic(auto, using(crate::proofs::Holding::length_held, crate::proofs::Holding::get_or_held, crate::proofs::Holding::at_place_get_or, crate::proofs::Holding::at_place_past))]
+    #[tactic(auto, using(crate::proofs::Holding::places))]
     pub fn look<E: Element>(&self, bank: &[E], place: usize) -> Result<E, RingError>
         ensures { result ≡ look_answer self.now bank.now place }
     {

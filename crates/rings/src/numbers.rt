@@ -12,7 +12,7 @@ impl Ring {
     pub fn new(base: usize, capacity: usize) -> Option<Ring>
         ensures { result ≡ made base capacity }
     {
-        if capacity > MOST || base > usize::MAX - capacity {
+        if capacity > MOST || base.checked_add(capacity).is_none() {
             return None;
         }
         Some(Ring {

@@ -19,7 +19,7 @@ impl Model for Ring {
 
     ghost view = { λ r. record { base = r.base; capacity = r.capacity; first = r.first; count = r.count } };
 
-    ghost invariant = { λ r. Sound (record { base = r.base; capacity = r.capacity; first = r.first; count = r.count }) };
+    ghost invariant = { λ r. Sound (view r) };
 
     ghost inverse = { λ l. record { base = l.base; capacity = l.capacity; first = l.first; count = l.count } };
 }
