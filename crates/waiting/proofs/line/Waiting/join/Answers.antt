@@ -1,9 +1,8 @@
 -- Who does not wait finds room, and its cases change nobody else's places.
-use Rattle.std.proofs.Common.{◌≡◌, ◌<◌, ◌≤◌, true, false, [], ◌∷◌, ◌++◌, cond, length, map, set, get_or, vec_items, vec_len, vec_capacity, sym, ap, ◌∙◌, subst, arith}
+use Rattle.std.proofs.Common.{◌<◌, ◌≤◌, [], ◌∷◌, ◌++◌, length, map, set, vec_items, vec_len, vec_capacity, sym, ap, ◌∙◌, subst, arith}
 use Rattle.std.proofs.lemmas.List.{map-set, length-map}
 use Rattle.std.proofs.lemmas.List.Elements.{All-set}
-use Rattle.waiting.specs.Queues.{queue, waits, written, Orderly}
-use Rattle.waiting.specs.Lines.{State}
+use Rattle.waiting.specs.Queues.{queue, Orderly}
 use Rattle.waiting.specs.Laws.{may_join}
 use Rattle.waiting.proofs.Lines.{orderly_push, room_left, joined_state}
 use Rattle.waiting.proofs.Orders.{queue_joined, may_join_parts}
