@@ -19,11 +19,11 @@ same_cond false x = refl
 
 module _ {X : Type 0} (s : Side) (c : ℕ) where
   -- the entry of a case
-  abbrev pub entry : ℕ → ℕ → Wish X → Entry X
+  abbrev entry : ℕ → ℕ → Wish X → Entry X
   entry q k w = record { routine = q; case = k; wish = w }
 
   -- the places of routine q are all its own
-  others_places : (q r k : ℕ) (ws : Row X) → others r (places s c q k ws) ≡ cond (eqb q r) [] (places s c q k ws)
+  pub others_places : (q r k : ℕ) (ws : Row X) → others r (places s c q k ws) ≡ cond (eqb q r) [] (places s c q k ws)
   others_places q r k [] = same_cond (eqb q r) []
   others_places q r k (None ∷ ws) = others_places q r (k + 1) ws
   others_places q r k (Some w ∷ ws) =
@@ -67,7 +67,7 @@ module _ {X : Type 0} (s : Side) (c : ℕ) where
       ∙ ap (λ l. l ++ places s c r 0 (cases r (written r ws t))) (queue_written r ws t line no')
       ∙ ap (λ l. queue s c line t ++ places s c r 0 l) (get_or-set_same t r ws [] room)
 
-among_others : {X : Type 0} (r : ℕ) (es : List (Entry X)) → among r (others r es) ≡ false
+pub among_others : {X : Type 0} (r : ℕ) (es : List (Entry X)) → among r (others r es) ≡ false
 among_others {X} r es = any-filter_same (λ (e : Entry X). eqb e.routine r) (λ e. not (eqb e.routine r)) false (λ e h. ap not h) es
 
 -- who left is in no queue

@@ -1,9 +1,9 @@
 -- Who is ahead in the line is served first.
 use Rattle.std.proofs.Common.{◌≡◌, ℕ, ◌+◌, ◌<◌, true, false, cond, not, ◌||◌, eqb, List, [], ◌∷◌, ◌++◌, length, Some, None, Option, sym, refl, ap, ◌∙◌, subst, ⊎_elim, arith, length-set}
-use Rattle.std.specs.List.{cons_option}
 use Rattle.std.proofs.lemmas.Bool.{cases_Bool, cases_eq, eqb-true, eqb-false, ne_eqb, eq-eqb, and_parts, true≢false}
 use Rattle.std.proofs.lemmas.List.Folds.{list_any-append}
 use Rattle.std.proofs.lemmas.Map.Views.{any-filter_same}
+use Rattle.std.proofs.lemmas.Bool.Decides.{nat_tests}
 use Rattle.waiting.specs.declared.wish.Side.{Side}
 use Rattle.waiting.specs.declared.wish.Entry.{Entry}
 use Rattle.waiting.specs.Queues.{Row, stands, places, queue, cases, first, waits, without, written, released}
@@ -11,7 +11,7 @@ use Rattle.waiting.specs.Lines.{State}
 use Rattle.waiting.specs.Laws.{among, others, may_join}
 use Rattle.waiting.specs.Runs.{Step, joins, leaves, releases, step, run, remains, ahead, fronts, EarlierIsAhead, FirstComeFirstServed}
 use Rattle.waiting.proofs.Lines.{or_false, waits_without}
-use Rattle.waiting.proofs.Orders.{entry, queue_without, queue_joined, may_join_parts}
+use Rattle.waiting.proofs.Orders.{others_places, among_others, queue_without, queue_joined, may_join_parts}
 
 -- whoever is not r stays among the others
 among_other : {X : Type 0} (a r : ℕ) → (r ≡ a → ⊥) → (es : List (Entry X)) → among a (others r es) ≡ among a es
@@ -22,65 +22,23 @@ among_other {X} a r ne es =
 among_append : {X : Type 0} (r : ℕ) (xs ys : List (Entry X)) → among r (xs ++ ys) ≡ (among r xs || among r ys)
 among_append {X} r xs ys = list_any-append (λ (e : Entry X). eqb e.routine r) xs ys
 
-module _ (a b q : ℕ) (line : List ℕ) where
-  ahead_here : eqb q a ≡ true → ahead a b (q ∷ line) ≡ true
-  ahead_here e = ap (λ t. cond t true (cond (eqb q b) false (ahead a b line))) e
-
-  ahead_later : eqb q a ≡ false → eqb q b ≡ false → ahead a b line ≡ true → ahead a b (q ∷ line) ≡ true
-  ahead_later e f h =
-      ap (λ t. cond t true (cond (eqb q b) false (ahead a b line))) e
-      ∙ ap (λ t. cond t false (ahead a b line)) f
-      ∙ h
-
-  ahead_rest : eqb q a ≡ false → ahead a b (q ∷ line) ≡ true → (eqb q b ≡ false) × (ahead a b line ≡ true)
-  ahead_rest e h =
-      let h1 : cond (eqb q b) false (ahead a b line) ≡ true = sym (ap (λ t. cond t true (cond (eqb q b) false (ahead a b line))) e) ∙ h in
-      ⊎_elim
-      (λ (f : eqb q b ≡ true). absurd (true≢false (sym h1 ∙ ap (λ t. cond t false (ahead a b line)) f)))
-      (λ (f : eqb q b ≡ false). (f, sym (ap (λ t. cond t false (ahead a b line)) f) ∙ h1))
-      (cases_Bool (eqb q b))
-
 ahead_push : (a b r : ℕ) (line : List ℕ) → ahead a b line ≡ true → ahead a b (line ++ r ∷ []) ≡ true
 ahead_push a b r [] h = absurd (true≢false (sym h))
-ahead_push a b r (q ∷ line) h =
-    ⊎_elim
-    (λ (e : eqb q a ≡ true). ahead_here a b q (line ++ r ∷ []) e)
-    (λ (e : eqb q a ≡ false).
-    let p = ahead_rest a b q line e h in
-    ahead_later a b q (line ++ r ∷ []) e p.0 (ahead_push a b r line p.1))
-    (cases_Bool (eqb q a))
+ahead_push a b r (q ∷ line) h = grind (arith, nat_tests, ahead_push a b r line)
 
 waits_ahead : (a b : ℕ) (line : List ℕ) → waits a line ≡ true → waits b line ≡ false → ahead a b line ≡ true
 waits_ahead a b [] w n = absurd (true≢false (sym w))
-waits_ahead a b (q ∷ line) w n =
-    let p = or_false (eqb b q) (waits b line) n in
-    ⊎_elim
-    (λ (e : q ≡ a). ahead_here a b q line (eq-eqb q a e))
-    (λ (ne : q ≡ a → ⊥).
-    let later : waits a line ≡ true = sym (ap (λ t. t || waits a line) (ne_eqb a q (λ e. ne (sym e)))) ∙ w in
-    ahead_later a b q line (ne_eqb q a ne) (ne_eqb q b (λ e. eqb-false b q p.0 (sym e))) (waits_ahead a b line later p.1))
-    (cases_eq q a)
+waits_ahead a b (q ∷ line) w n = grind (arith, nat_tests, waits_ahead a b line)
 
 pub earlier_is_ahead : EarlierIsAhead
 earlier_is_ahead a b line w n = ahead_push a b b line (waits_ahead a b line w n)
 
 ahead_without : (a b r : ℕ) → (r ≡ a → ⊥) → (line : List ℕ) → ahead a b line ≡ true → ahead a b (without r line) ≡ true
 ahead_without a b r ne [] h = h
-ahead_without a b r ne (q ∷ line) h =
-    ⊎_elim
-    (λ (e : eqb q r ≡ true).
-    let na : eqb q a ≡ false = ne_eqb q a (λ f. ne (sym (eqb-true q r e) ∙ f)) in
-    ap (λ t. ahead a b (cond (not t) (q ∷ without r line) (without r line))) e
-    ∙ ahead_without a b r ne line (ahead_rest a b q line na h).1)
-    (λ (e : eqb q r ≡ false).
-    ap (λ t. ahead a b (cond (not t) (q ∷ without r line) (without r line))) e
-    ∙ ⊎_elim
-    (λ (f : eqb q a ≡ true). ahead_here a b q (without r line) f)
-    (λ (f : eqb q a ≡ false).
-    let p = ahead_rest a b q line f h in
-    ahead_later a b q (without r line) f p.0 (ahead_without a b r ne line p.1))
-    (cases_Bool (eqb q a)))
-    (cases_Bool (eqb q r))
+ahead_without a b r ne (q ∷ line) h = grind (arith, nat_tests, ahead_without a b r ne line)
+
+ahead_rest : (a b q : ℕ) (line : List ℕ) → eqb q a ≡ false → ahead a b (q ∷ line) ≡ true → (eqb q b ≡ false) × (ahead a b line ≡ true)
+ahead_rest a b q line e h = grind (arith, nat_tests)
 
 -- past entries that are not b's
 front_past : {X : Type 0} (b : ℕ) (xs ys : List (Entry X)) → among b xs ≡ false → (xs ≡ [] → fronts b (first ys) ≡ false) → fronts b (first (xs ++ ys)) ≡ false
@@ -89,12 +47,8 @@ front_past b (x ∷ xs) ys n h = (or_false (eqb x.routine b) (among b xs) n).0
 
 module _ {X : Type 0} (s : Side) (c : ℕ) where
   strange : (q r k : ℕ) (ws : Row X) → eqb q r ≡ false → among r (places s c q k ws) ≡ false
-  strange q r k [] e = refl
-  strange q r k (None ∷ ws) e = strange q r (k + 1) ws e
-  strange q r k (Some w ∷ ws) e =
-      let ih = strange q r (k + 1) ws e in
-      elim (stands s c w) as (λ b. among r (cons_option (cond b (Some (entry s c q k w)) None) (places s c q (k + 1) ws)) ≡ false)
-      [ true ↦ ap (λ b. b || among r (places s c q (k + 1) ws)) e ∙ ih | false ↦ ih ]
+  strange q r k ws e =
+      ap (among r) (sym (others_places s c q r k ws ∙ ap (λ b. cond b [] (places s c q k ws)) e)) ∙ among_others r (places s c q k ws)
 
   -- a routine without a place has none wherever it stands in the line
   placeless : (a : ℕ) (t : List (Row X)) (line : List ℕ) → places s c a 0 (cases a t) ≡ [] → among a (queue s c line t) ≡ false
