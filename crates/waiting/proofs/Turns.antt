@@ -54,36 +54,16 @@ module _ {X : Type 0} (s : Side) (c : ℕ) where
   placeless : (a : ℕ) (t : List (Row X)) (line : List ℕ) → places s c a 0 (cases a t) ≡ [] → among a (queue s c line t) ≡ false
   placeless a t [] h = refl
   placeless a t (q ∷ line) h =
-      among_append a (places s c q 0 (cases q t)) (queue s c line t)
-      ∙ ap (λ b. b || among a (queue s c line t)) (⊎_elim
-      (λ (e : q ≡ a). ap (among a) (ap (λ n. places s c n 0 (cases n t)) e ∙ h))
-      (λ (ne : q ≡ a → ⊥). strange q a 0 (cases q t) (ne_eqb q a ne))
-      (cases_eq q a))
-      ∙ placeless a t line h
+      grind (arith, nat_tests, among_append a (places s c q 0 (cases q t)) (queue s c line t), strange q a 0 (cases q t), placeless a t line h)
 
   -- while a is ahead and stands in the queue, b is not its front
   front_ahead : (a b : ℕ) → (a ≡ b → ⊥) → (t : List (Row X)) (line : List ℕ) → ahead a b line ≡ true → among a (queue s c line t) ≡ true → fronts b (first (queue s c line t)) ≡ false
   front_ahead a b ne t [] h m = refl
   front_ahead a b ne t (q ∷ line) h m =
-      let both = among_append a (places s c q 0 (cases q t)) (queue s c line t) in
-      ⊎_elim
-      (λ (e : q ≡ a).
-      let nb : eqb q b ≡ false = ne_eqb q b (λ f. ne (sym e ∙ f)) in
-      front_past b (places s c q 0 (cases q t)) (queue s c line t) (strange q b 0 (cases q t) nb)
-      (λ z.
-      absurd (true≢false
-      (sym m
-      ∙ both
-      ∙ ap (λ l. among a l || among a (queue s c line t)) z
-      ∙ placeless a t line (ap (λ n. places s c n 0 (cases n t)) (sym e) ∙ z)))))
-      (λ (d : q ≡ a → ⊥).
-      let na : eqb q a ≡ false = ne_eqb q a d in
-      let p = ahead_rest a b q line na h in
-      let rest : among a (queue s c line t) ≡ true =
-      sym (both ∙ ap (λ b. b || among a (queue s c line t)) (strange q a 0 (cases q t) na)) ∙ m in
-      front_past b (places s c q 0 (cases q t)) (queue s c line t) (strange q b 0 (cases q t) p.0)
-      (λ z. front_ahead a b ne t line p.1 rest))
-      (cases_eq q a)
+      let own = places s c q 0 (cases q t) in
+      let both : among a (own ++ queue s c line t) ≡ (among a own || among a (queue s c line t)) = among_append a own (queue s c line t) in
+      front_past b own (queue s c line t) (grind (arith, nat_tests, strange q b 0 (cases q t)))
+      (λ z. grind (arith, nat_tests, both, z, ap (among a) z, placeless a t line, front_ahead a b ne t line))
 
   -- a is ahead of b, and stands in the queue
   abbrev Holds : ℕ → ℕ → State X → Type 0
