@@ -12,11 +12,6 @@ use Rattle.waiting.specs.declared.wish.Side.{Side}
 use Rattle.waiting.specs.declared.wish.Entry.{Entry}
 use Rattle.waiting.specs.Queues.{Row, stands, places, queue, cases, waits, without, written}
 use Rattle.waiting.specs.Laws.{among, others, may_join}
-use Rattle.waiting.proofs.Lines.{or_false}
-
-same_cond : {A : Type 0} (b : Bool) (x : A) → x ≡ cond b x x
-same_cond true x = refl
-same_cond false x = refl
 
 module _ {X : Type 0} (s : Side) (c : ℕ) where
   -- the entry of a case
@@ -59,10 +54,3 @@ among_others {X} r es = any-filter_same (λ (e : Entry X). eqb e.routine r) (λ 
 -- who left is in no queue
 pub gone : {X : Type 0} (s : Side) (c r : ℕ) (line : List ℕ) (t : List (Row X)) → among r (queue s c (without r line) t) ≡ false
 gone s c r line t = ap (among r) (queue_without s c r line t) ∙ among_others r (queue s c line t)
-
--- what it takes to join
-pub may_join_parts : (r n : ℕ) (line : List ℕ) → may_join r n line ≡ true → (r < 64) × (n ≤ 8) × (waits r line ≡ false)
-may_join_parts r n line e =
-    let p = and_parts (ltb r 64) (leb n 8 && not (waits r line)) e in
-    let q = and_parts (leb n 8) (not (waits r line)) p.1 in
-    (ltb-true r 64 p.0, leb-true n 8 q.0, not-true (waits r line) q.1)

@@ -10,8 +10,8 @@ use Rattle.waiting.specs.Queues.{Row, stands, places, queue, cases, first, waits
 use Rattle.waiting.specs.Lines.{State}
 use Rattle.waiting.specs.Laws.{among, others, may_join}
 use Rattle.waiting.specs.Runs.{Step, joins, leaves, releases, step, run, remains, ahead, fronts, EarlierIsAhead, FirstComeFirstServed}
-use Rattle.waiting.proofs.Lines.{or_false, waits_without}
-use Rattle.waiting.proofs.Orders.{others_places, among_others, queue_without, queue_joined, may_join_parts}
+use Rattle.waiting.proofs.Lines.{may_join_parts, waits_without}
+use Rattle.waiting.proofs.Orders.{others_places, among_others, queue_without, queue_joined}
 
 -- whoever is not r stays among the others
 among_other : {X : Type 0} (a r : ℕ) → (r ≡ a → ⊥) → (es : List (Entry X)) → among a (others r es) ≡ among a es
@@ -43,7 +43,7 @@ ahead_rest a b q line e h = grind (arith, nat_tests)
 -- past entries that are not b's
 front_past : {X : Type 0} (b : ℕ) (xs ys : List (Entry X)) → among b xs ≡ false → (xs ≡ [] → fronts b (first ys) ≡ false) → fronts b (first (xs ++ ys)) ≡ false
 front_past b [] ys n h = h refl
-front_past b (x ∷ xs) ys n h = (or_false (eqb x.routine b) (among b xs) n).0
+front_past b (x ∷ xs) ys n h = grind (arith, nat_tests)
 
 module _ {X : Type 0} (s : Side) (c : ℕ) where
   strange : (q r k : ℕ) (ws : Row X) → eqb q r ≡ false → among r (places s c q k ws) ≡ false
