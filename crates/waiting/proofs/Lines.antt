@@ -1,5 +1,5 @@
 -- The line when a routine joins or leaves it.
-use Rattle.std.proofs.Common.{◌≡◌, ℕ, zero, suc, ◌<◌, ◌≤◌, Bool, true, false, cond, not, ◌||◌, ◌&&◌, eqb, List, [], ◌∷◌, ◌++◌, length, sym, refl, ap, ◌∙◌, arith, length-append}
+use Rattle.std.proofs.Common.{◌≡◌, ℕ, zero, suc, ◌<◌, ◌≤◌, Bool, true, false, cond, not, ◌||◌, eqb, List, [], ◌∷◌, ◌++◌, length, sym, refl, ap, arith, length-append}
 use Rattle.std.specs.List.{All, AllByRecursion, IsDistinct}
 use Rattle.std.proofs.lemmas.Bool.{eqb-true, eq-eqb, true≢false}
 use Rattle.std.proofs.lemmas.List.Folds.{Any-from_list_any}
@@ -9,14 +9,9 @@ use Rattle.std.proofs.lemmas.Map.Steps.{length-le_from_distinct_below}
 use Rattle.std.proofs.lemmas.Map.Views.{any-filter_same}
 use Rattle.std.specs.List.{filter}
 use Rattle.std.specs.Cmp.{nat_eq_equiv}
-use Rattle.waiting.specs.Queues.{Row, waits, without, written, Orderly}
-use Rattle.waiting.specs.Lines.{State}
+use Rattle.waiting.specs.Queues.{waits, without, Orderly}
 use Rattle.waiting.specs.Laws.{may_join}
-use Rattle.waiting.specs.Runs.{step, joins}
-
-pub or_false : (a b : Bool) → (a || b) ≡ false → (a ≡ false) × (b ≡ false)
-or_false true b h = absurd (true≢false h)
-or_false false b h = (refl, h)
+use Rattle.std.proofs.lemmas.Bool.Decides.{nat_tests}
 
 kept : (P : ℕ → Type 0) (p : ℕ → Bool) (xs : List ℕ) → AllByRecursion P xs → AllByRecursion P (filter p xs)
 kept P p [] h = tt
@@ -50,14 +45,17 @@ single n r h (suc k) d l = absurd (omega arith)
 pub orderly_push : (n r : ℕ) (line : List ℕ) → r < n → waits r line ≡ false → Orderly n line → Orderly n (line ++ r ∷ [])
 orderly_push n r line h w o = (All-append (λ q. q < n) line (r ∷ []) o.0 (single n r h), IsDistinct-push nat_eq_equiv line r o.1 w)
 
--- who does not wait finds room
-pub room_left : (n r : ℕ) (line : List ℕ) → r < n → waits r line ≡ false → Orderly n line → length line < n
-room_left n r line h w o = omega (arith, crowd n (line ++ r ∷ []) (orderly_push n r line h w o), length-append line (r ∷ []))
+-- what it takes to join
+pub may_join_parts : (r n : ℕ) (line : List ℕ) → may_join r n line ≡ true → (r < 64) × (n ≤ 8) × (waits r line ≡ false)
+may_join_parts r n line e = grind (arith, nat_tests)
+
+-- who may join finds room, and the line stays in order
+pub room_to_join : (r n : ℕ) (line : List ℕ) → may_join r n line ≡ true → Orderly 64 line → (length line < 64) × Orderly 64 (line ++ r ∷ [])
+room_to_join r n line e o =
+    let p = may_join_parts r n line e in
+    let next = orderly_push 64 r line p.0 p.2 o in
+    (omega (arith, crowd 64 (line ++ r ∷ []) next, length-append line (r ∷ [])), next)
 
 pub orderly_none : (n : ℕ) → Orderly n []
 unfolding IsDistinct
 orderly_none n = (All-nil (λ q. q < n), tt)
-
--- a join that was answered true
-pub joined_state : {X : Type 0} (r : ℕ) (ws : Row X) (st : State X) (line : List ℕ) (table : List (Row X)) → line ≡ st.line ++ r ∷ [] → table ≡ written r ws st.table → may_join r (length ws) st.line ≡ true → record { line = line; table = table } ≡ step (joins r ws) st
-joined_state {X} r ws st line table l t may = rw (l, t, may) refl

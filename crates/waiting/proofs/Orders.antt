@@ -1,50 +1,34 @@
 -- What joining and leaving do to every queue.
-use Rattle.std.proofs.Common.{◌≡◌, ℕ, ◌+◌, ◌<◌, ◌≤◌, Bool, true, false, cond, not, ◌&&◌, eqb, ltb, leb, List, [], ◌∷◌, ◌++◌, length, set, Some, None, sym, refl, ap, ◌∙◌, append-nil, arith}
-use Rattle.std.specs.List.{cons_option, flat_map}
+use Rattle.std.proofs.Common.{arith, ◌≡◌, ℕ, ◌+◌, ◌<◌, ◌≤◌, Bool, true, false, cond, not, ◌&&◌, eqb, ltb, leb, List, [], ◌∷◌, ◌++◌, length, Some, None, sym, refl, ap, ◌∙◌, append-nil}
+use Rattle.std.specs.List.{cons_option}
 use Rattle.std.proofs.lemmas.List.{get_or-set_same, get_or-set_other}
 use Rattle.std.proofs.lemmas.List.Elements.{filter-append}
 use Rattle.std.proofs.lemmas.Grind.{flat_map-append}
 use Rattle.std.proofs.lemmas.Bool.{eqb-false, and_parts, ltb-true, leb-true, not-true}
+use Rattle.std.proofs.lemmas.Bool.Decides.{nat_tests}
 use Rattle.std.proofs.lemmas.Map.Views.{any-filter_same}
 use Rattle.waiting.specs.declared.wish.Wish.{Wish}
 use Rattle.waiting.specs.declared.wish.Side.{Side}
 use Rattle.waiting.specs.declared.wish.Entry.{Entry}
-use Rattle.waiting.specs.Queues.{Row, stands, place, places, queue, cases, waits, without, written}
+use Rattle.waiting.specs.Queues.{Row, stands, places, queue, cases, waits, without, written}
 use Rattle.waiting.specs.Laws.{among, others, may_join}
-use Rattle.waiting.proofs.Lines.{or_false}
-
-same_cond : {A : Type 0} (b : Bool) (x : A) → x ≡ cond b x x
-same_cond true x = refl
-same_cond false x = refl
 
 module _ {X : Type 0} (s : Side) (c : ℕ) where
   -- the entry of a case
-  abbrev pub entry : ℕ → ℕ → Wish X → Entry X
+  abbrev entry : ℕ → ℕ → Wish X → Entry X
   entry q k w = record { routine = q; case = k; wish = w }
 
   -- the places of routine q are all its own
-  others_places : (q r k : ℕ) (ws : Row X) → others r (places s c q k ws) ≡ cond (eqb q r) [] (places s c q k ws)
-  others_places q r k [] = same_cond (eqb q r) []
+  pub others_places : (q r k : ℕ) (ws : Row X) → others r (places s c q k ws) ≡ cond (eqb q r) [] (places s c q k ws)
+  others_places q r k [] = grind (arith, nat_tests)
   others_places q r k (None ∷ ws) = others_places q r (k + 1) ws
-  others_places q r k (Some w ∷ ws) =
-      let ih = others_places q r (k + 1) ws in
-      let later = places s c q (k + 1) ws in
-      elim (stands s c w) as (λ b. others r (cons_option (cond b (Some (entry q k w)) None) later) ≡ cond (eqb q r) [] (cons_option (cond b (Some (entry q k w)) None) later)) [
-        | true ↦
-            ap (λ l. cond (not (eqb q r)) (entry q k w ∷ l) l) ih
-            ∙ elim (eqb q r) as (λ b. cond (not b) (entry q k w ∷ cond b [] later) (cond b [] later) ≡ cond b [] (entry q k w ∷ later)) [ true ↦ refl | false ↦ refl ]
-        | false ↦ ih
-      ]
+  others_places q r k (Some w ∷ ws) = grind (arith, nat_tests, others_places q r (k + 1) ws)
 
   -- the others keep their order
   pub queue_without : (r : ℕ) (line : List ℕ) (t : List (Row X)) → queue s c (without r line) t ≡ others r (queue s c line t)
   queue_without r [] t = refl
   queue_without r (q ∷ line) t =
-      let ih = queue_without r line t in
-      let own = places s c q 0 (cases q t) in
-      elim (eqb q r) as (λ b. queue s c (cond (not b) (q ∷ without r line) (without r line)) t ≡ cond b [] own ++ others r (queue s c line t)) [ true ↦ ih | false ↦ ap (λ l. own ++ l) ih ]
-      ∙ ap (λ l. l ++ others r (queue s c line t)) (sym (others_places q r 0 (cases q t)))
-      ∙ sym (filter-append (λ (e : Entry X). not (eqb e.routine r)) own (queue s c line t))
+      grind (arith, nat_tests, queue_without r line t, others_places q r 0 (cases q t), filter-append (λ (e : Entry X). not (eqb e.routine r)) (places s c q 0 (cases q t)) (queue s c line t))
 
   -- who joins stands behind all others
   pub queue_push : (r : ℕ) (line : List ℕ) (t : List (Row X)) → queue s c (line ++ r ∷ []) t ≡ queue s c line t ++ places s c r 0 (cases r t)
@@ -55,10 +39,7 @@ module _ {X : Type 0} (s : Side) (c : ℕ) where
   -- the cases of one who does not wait are in no queue
   queue_written : (r : ℕ) (ws : Row X) (t : List (Row X)) (line : List ℕ) → waits r line ≡ false → queue s c line (written r ws t) ≡ queue s c line t
   queue_written r ws t [] no' = refl
-  queue_written r ws t (q ∷ line) no' =
-      let h = or_false (eqb r q) (waits r line) no' in
-      ap (λ l. places s c q 0 l ++ queue s c line (written r ws t)) (get_or-set_other t r q ws [] (λ e. eqb-false r q h.0 (sym e)))
-      ∙ ap (λ l. places s c q 0 (cases q t) ++ l) (queue_written r ws t line h.1)
+  queue_written r ws t (q ∷ line) no' = grind (arith, nat_tests, get_or-set_other t r q ws [], queue_written r ws t line)
 
   -- joining, with the cases written
   pub queue_joined : (r : ℕ) (ws : Row X) (t : List (Row X)) (line : List ℕ) → r < length t → waits r line ≡ false → queue s c (line ++ r ∷ []) (written r ws t) ≡ queue s c line t ++ places s c r 0 ws
@@ -67,16 +48,9 @@ module _ {X : Type 0} (s : Side) (c : ℕ) where
       ∙ ap (λ l. l ++ places s c r 0 (cases r (written r ws t))) (queue_written r ws t line no')
       ∙ ap (λ l. queue s c line t ++ places s c r 0 l) (get_or-set_same t r ws [] room)
 
-among_others : {X : Type 0} (r : ℕ) (es : List (Entry X)) → among r (others r es) ≡ false
+pub among_others : {X : Type 0} (r : ℕ) (es : List (Entry X)) → among r (others r es) ≡ false
 among_others {X} r es = any-filter_same (λ (e : Entry X). eqb e.routine r) (λ e. not (eqb e.routine r)) false (λ e h. ap not h) es
 
 -- who left is in no queue
 pub gone : {X : Type 0} (s : Side) (c r : ℕ) (line : List ℕ) (t : List (Row X)) → among r (queue s c (without r line) t) ≡ false
 gone s c r line t = ap (among r) (queue_without s c r line t) ∙ among_others r (queue s c line t)
-
--- what it takes to join
-pub may_join_parts : (r n : ℕ) (line : List ℕ) → may_join r n line ≡ true → (r < 64) × (n ≤ 8) × (waits r line ≡ false)
-may_join_parts r n line e =
-    let p = and_parts (ltb r 64) (leb n 8 && not (waits r line)) e in
-    let q = and_parts (leb n 8) (not (waits r line)) p.1 in
-    (ltb-true r 64 p.0, leb-true n 8 q.0, not-true (waits r line) q.1)

@@ -1,18 +1,17 @@
 -- Who is ahead in the line is served first.
 use Rattle.std.proofs.Common.{◌≡◌, ℕ, ◌+◌, ◌<◌, true, false, cond, not, ◌||◌, eqb, List, [], ◌∷◌, ◌++◌, length, Some, None, Option, sym, refl, ap, ◌∙◌, subst, ⊎_elim, arith, length-set}
-use Rattle.std.specs.List.{cons_option}
 use Rattle.std.proofs.lemmas.Bool.{cases_Bool, cases_eq, eqb-true, eqb-false, ne_eqb, eq-eqb, and_parts, true≢false}
 use Rattle.std.proofs.lemmas.List.Folds.{list_any-append}
 use Rattle.std.proofs.lemmas.Map.Views.{any-filter_same}
-use Rattle.waiting.specs.declared.wish.Wish.{Wish}
+use Rattle.std.proofs.lemmas.Bool.Decides.{nat_tests}
 use Rattle.waiting.specs.declared.wish.Side.{Side}
 use Rattle.waiting.specs.declared.wish.Entry.{Entry}
 use Rattle.waiting.specs.Queues.{Row, stands, places, queue, cases, first, waits, without, written, released}
 use Rattle.waiting.specs.Lines.{State}
 use Rattle.waiting.specs.Laws.{among, others, may_join}
 use Rattle.waiting.specs.Runs.{Step, joins, leaves, releases, step, run, remains, ahead, fronts, EarlierIsAhead, FirstComeFirstServed}
-use Rattle.waiting.proofs.Lines.{or_false, waits_without}
-use Rattle.waiting.proofs.Orders.{entry, queue_without, queue_joined, may_join_parts}
+use Rattle.waiting.proofs.Lines.{may_join_parts, waits_without}
+use Rattle.waiting.proofs.Orders.{others_places, among_others, queue_without, queue_joined}
 
 -- whoever is not r stays among the others
 among_other : {X : Type 0} (a r : ℕ) → (r ≡ a → ⊥) → (es : List (Entry X)) → among a (others r es) ≡ among a es
@@ -23,114 +22,48 @@ among_other {X} a r ne es =
 among_append : {X : Type 0} (r : ℕ) (xs ys : List (Entry X)) → among r (xs ++ ys) ≡ (among r xs || among r ys)
 among_append {X} r xs ys = list_any-append (λ (e : Entry X). eqb e.routine r) xs ys
 
-module _ (a b q : ℕ) (line : List ℕ) where
-  ahead_here : eqb q a ≡ true → ahead a b (q ∷ line) ≡ true
-  ahead_here e = ap (λ t. cond t true (cond (eqb q b) false (ahead a b line))) e
-
-  ahead_later : eqb q a ≡ false → eqb q b ≡ false → ahead a b line ≡ true → ahead a b (q ∷ line) ≡ true
-  ahead_later e f h =
-      ap (λ t. cond t true (cond (eqb q b) false (ahead a b line))) e
-      ∙ ap (λ t. cond t false (ahead a b line)) f
-      ∙ h
-
-  ahead_rest : eqb q a ≡ false → ahead a b (q ∷ line) ≡ true → (eqb q b ≡ false) × (ahead a b line ≡ true)
-  ahead_rest e h =
-      let h1 : cond (eqb q b) false (ahead a b line) ≡ true = sym (ap (λ t. cond t true (cond (eqb q b) false (ahead a b line))) e) ∙ h in
-      ⊎_elim
-      (λ (f : eqb q b ≡ true). absurd (true≢false (sym h1 ∙ ap (λ t. cond t false (ahead a b line)) f)))
-      (λ (f : eqb q b ≡ false). (f, sym (ap (λ t. cond t false (ahead a b line)) f) ∙ h1))
-      (cases_Bool (eqb q b))
-
 ahead_push : (a b r : ℕ) (line : List ℕ) → ahead a b line ≡ true → ahead a b (line ++ r ∷ []) ≡ true
 ahead_push a b r [] h = absurd (true≢false (sym h))
-ahead_push a b r (q ∷ line) h =
-    ⊎_elim
-    (λ (e : eqb q a ≡ true). ahead_here a b q (line ++ r ∷ []) e)
-    (λ (e : eqb q a ≡ false).
-    let p = ahead_rest a b q line e h in
-    ahead_later a b q (line ++ r ∷ []) e p.0 (ahead_push a b r line p.1))
-    (cases_Bool (eqb q a))
+ahead_push a b r (q ∷ line) h = grind (arith, nat_tests, ahead_push a b r line)
 
 waits_ahead : (a b : ℕ) (line : List ℕ) → waits a line ≡ true → waits b line ≡ false → ahead a b line ≡ true
 waits_ahead a b [] w n = absurd (true≢false (sym w))
-waits_ahead a b (q ∷ line) w n =
-    let p = or_false (eqb b q) (waits b line) n in
-    ⊎_elim
-    (λ (e : q ≡ a). ahead_here a b q line (eq-eqb q a e))
-    (λ (ne : q ≡ a → ⊥).
-    let later : waits a line ≡ true = sym (ap (λ t. t || waits a line) (ne_eqb a q (λ e. ne (sym e)))) ∙ w in
-    ahead_later a b q line (ne_eqb q a ne) (ne_eqb q b (λ e. eqb-false b q p.0 (sym e))) (waits_ahead a b line later p.1))
-    (cases_eq q a)
+waits_ahead a b (q ∷ line) w n = grind (arith, nat_tests, waits_ahead a b line)
 
 pub earlier_is_ahead : EarlierIsAhead
 earlier_is_ahead a b line w n = ahead_push a b b line (waits_ahead a b line w n)
 
 ahead_without : (a b r : ℕ) → (r ≡ a → ⊥) → (line : List ℕ) → ahead a b line ≡ true → ahead a b (without r line) ≡ true
 ahead_without a b r ne [] h = h
-ahead_without a b r ne (q ∷ line) h =
-    ⊎_elim
-    (λ (e : eqb q r ≡ true).
-    let na : eqb q a ≡ false = ne_eqb q a (λ f. ne (sym (eqb-true q r e) ∙ f)) in
-    ap (λ t. ahead a b (cond (not t) (q ∷ without r line) (without r line))) e
-    ∙ ahead_without a b r ne line (ahead_rest a b q line na h).1)
-    (λ (e : eqb q r ≡ false).
-    ap (λ t. ahead a b (cond (not t) (q ∷ without r line) (without r line))) e
-    ∙ ⊎_elim
-    (λ (f : eqb q a ≡ true). ahead_here a b q (without r line) f)
-    (λ (f : eqb q a ≡ false).
-    let p = ahead_rest a b q line f h in
-    ahead_later a b q (without r line) f p.0 (ahead_without a b r ne line p.1))
-    (cases_Bool (eqb q a)))
-    (cases_Bool (eqb q r))
+ahead_without a b r ne (q ∷ line) h = grind (arith, nat_tests, ahead_without a b r ne line)
+
+ahead_rest : (a b q : ℕ) (line : List ℕ) → eqb q a ≡ false → ahead a b (q ∷ line) ≡ true → (eqb q b ≡ false) × (ahead a b line ≡ true)
+ahead_rest a b q line e h = grind (arith, nat_tests)
 
 -- past entries that are not b's
 front_past : {X : Type 0} (b : ℕ) (xs ys : List (Entry X)) → among b xs ≡ false → (xs ≡ [] → fronts b (first ys) ≡ false) → fronts b (first (xs ++ ys)) ≡ false
 front_past b [] ys n h = h refl
-front_past b (x ∷ xs) ys n h = (or_false (eqb x.routine b) (among b xs) n).0
+front_past b (x ∷ xs) ys n h = grind (arith, nat_tests)
 
 module _ {X : Type 0} (s : Side) (c : ℕ) where
   strange : (q r k : ℕ) (ws : Row X) → eqb q r ≡ false → among r (places s c q k ws) ≡ false
-  strange q r k [] e = refl
-  strange q r k (None ∷ ws) e = strange q r (k + 1) ws e
-  strange q r k (Some w ∷ ws) e =
-      let ih = strange q r (k + 1) ws e in
-      elim (stands s c w) as (λ b. among r (cons_option (cond b (Some (entry s c q k w)) None) (places s c q (k + 1) ws)) ≡ false)
-      [ true ↦ ap (λ b. b || among r (places s c q (k + 1) ws)) e ∙ ih | false ↦ ih ]
+  strange q r k ws e =
+      ap (among r) (sym (others_places s c q r k ws ∙ ap (λ b. cond b [] (places s c q k ws)) e)) ∙ among_others r (places s c q k ws)
 
   -- a routine without a place has none wherever it stands in the line
   placeless : (a : ℕ) (t : List (Row X)) (line : List ℕ) → places s c a 0 (cases a t) ≡ [] → among a (queue s c line t) ≡ false
   placeless a t [] h = refl
   placeless a t (q ∷ line) h =
-      among_append a (places s c q 0 (cases q t)) (queue s c line t)
-      ∙ ap (λ b. b || among a (queue s c line t)) (⊎_elim
-      (λ (e : q ≡ a). ap (among a) (ap (λ n. places s c n 0 (cases n t)) e ∙ h))
-      (λ (ne : q ≡ a → ⊥). strange q a 0 (cases q t) (ne_eqb q a ne))
-      (cases_eq q a))
-      ∙ placeless a t line h
+      grind (arith, nat_tests, among_append a (places s c q 0 (cases q t)) (queue s c line t), strange q a 0 (cases q t), placeless a t line h)
 
   -- while a is ahead and stands in the queue, b is not its front
   front_ahead : (a b : ℕ) → (a ≡ b → ⊥) → (t : List (Row X)) (line : List ℕ) → ahead a b line ≡ true → among a (queue s c line t) ≡ true → fronts b (first (queue s c line t)) ≡ false
   front_ahead a b ne t [] h m = refl
   front_ahead a b ne t (q ∷ line) h m =
-      let both = among_append a (places s c q 0 (cases q t)) (queue s c line t) in
-      ⊎_elim
-      (λ (e : q ≡ a).
-      let nb : eqb q b ≡ false = ne_eqb q b (λ f. ne (sym e ∙ f)) in
-      front_past b (places s c q 0 (cases q t)) (queue s c line t) (strange q b 0 (cases q t) nb)
-      (λ z.
-      absurd (true≢false
-      (sym m
-      ∙ both
-      ∙ ap (λ l. among a l || among a (queue s c line t)) z
-      ∙ placeless a t line (ap (λ n. places s c n 0 (cases n t)) (sym e) ∙ z)))))
-      (λ (d : q ≡ a → ⊥).
-      let na : eqb q a ≡ false = ne_eqb q a d in
-      let p = ahead_rest a b q line na h in
-      let rest : among a (queue s c line t) ≡ true =
-      sym (both ∙ ap (λ b. b || among a (queue s c line t)) (strange q a 0 (cases q t) na)) ∙ m in
-      front_past b (places s c q 0 (cases q t)) (queue s c line t) (strange q b 0 (cases q t) p.0)
-      (λ z. front_ahead a b ne t line p.1 rest))
-      (cases_eq q a)
+      let own = places s c q 0 (cases q t) in
+      let both : among a (own ++ queue s c line t) ≡ (among a own || among a (queue s c line t)) = among_append a own (queue s c line t) in
+      front_past b own (queue s c line t) (grind (arith, nat_tests, strange q b 0 (cases q t)))
+      (λ z. grind (arith, nat_tests, both, z, ap (among a) z, placeless a t line, front_ahead a b ne t line))
 
   -- a is ahead of b, and stands in the queue
   abbrev Holds : ℕ → ℕ → State X → Type 0

@@ -1,5 +1,5 @@
 -- The queues of the channels, read from the waiting line and the table of cases.
-use Rattle.std.specs.Prelude.{ℕ, Bool, true, false, cond, not, List, [], ◌∷◌, ◌++◌, ◌<◌, Some, None, filter, Option, ◌==◌, slice_index_or, slice_set}
+use Rattle.std.specs.Prelude.{ℕ, Bool, false, cond, not, List, [], ◌∷◌, ◌<◌, Some, None, filter, Option, ◌==◌, slice_index_or, slice_set}
 use Rattle.std.specs.List.{All, IsDistinct, enumerate_from, filter_map, flat_map, list_any}
 use Rattle.waiting.specs.declared.wish.Wish.{Wish}
 use Rattle.waiting.specs.declared.wish.Wish.TheVariants.{Send, Receive}

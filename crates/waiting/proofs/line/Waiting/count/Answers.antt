@@ -1,5 +1,5 @@
 -- The places of each, of whom there are at most 64.
-use Rattle.std.proofs.Common.{ℕ, ◌≤◌, ◌^◌, length, sym, ◌∙◌, ap, rules, arith}
+use Rattle.std.proofs.Common.{ℕ, ◌^◌, length, sym, ◌∙◌, ap, rules, arith}
 use Rattle.std.proofs.lemmas.Iterator.{YieldsList-from_slice, YieldsList-from_map}
 use Rattle.std.proofs.lemmas.Iterator.Adapters.{fits_from_length, at_most_from_yields_List}
 use Rattle.std.proofs.lemmas.Iterator.Consumers.{YieldsList-at, sum_by_from_yields_List}
