@@ -3,7 +3,7 @@
 
 mod pair;
 
-use anyhow::anyhow;
+use anyhow::Context;
 use channels::{Channel, CloseError, ReceiveError, Received, SendError, Sent};
 use pair::Pair;
 use waiting::{Waiting, Wish};
@@ -103,9 +103,7 @@ fn hand_and_close(rt: &HostRuntime, desk: &mut Desk) -> anyhow::Result<()> {
 fn main(rt: HostRuntime) -> anyhow::Result<()> {
     let cells = vec![in rt.alloc(); Pair { high: 0, low: 0 }; 16]?;
     let waiting = Waiting::new(rt.alloc())?;
-    let Some(channel) = Channel::new(0, 4, 2) else {
-        return Err(anyhow!("no such channel"));
-    };
+    let channel = Channel::new(0, 4, 2).context("no such channel")?;
     let mut desk = Desk {
         channel,
         waiting,
