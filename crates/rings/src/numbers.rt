@@ -1,6 +1,6 @@
 // A ring's numbers.
 ghost use Rattle.std.specs.Prelude.{◌≡◌};
-ghost use Rattle.rings.specs.Layouts.{made};
+ghost use Rattle.rings.specs.Layouts.{Sound, made};
 
 use crate::ring::Ring;
 
@@ -39,7 +39,8 @@ impl Ring {
 
     // How many elements it holds.
     pub fn count(&self) -> usize
-        ensures { result ≡ self.now.count }
+        ensures is { result ≡ self.now.count }
+        ensures sound { Sound self.now }
     {
         self.count
     }
