@@ -1,5 +1,6 @@
 // Making a channel, and what can be asked of it.
 ghost use Rattle.std.specs.Prelude.{◌≡◌};
+ghost use Rattle.rings.specs.Layouts.{Sound};
 ghost use Rattle.channels.specs.Seen.{new_channel};
 
 use crate::channel::Channel;
@@ -31,9 +32,10 @@ impl Channel {
         self.ring.capacity()
     }
 
-    // How many elements it buffers.
+    // How many elements it buffers, and what is true of every ring.
     pub fn count(&self) -> usize
-        ensures { result ≡ self.now.ring.count }
+        ensures is { result ≡ self.now.ring.count }
+        ensures sound { Sound self.now.ring }
     {
         self.ring.count()
     }
