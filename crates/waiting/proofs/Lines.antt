@@ -1,7 +1,7 @@
 -- The line when a routine joins or leaves it.
-use Rattle.std.proofs.Common.{◌≡◌, ℕ, zero, suc, ◌<◌, ◌≤◌, Bool, true, false, cond, not, ◌||◌, eqb, List, [], ◌∷◌, ◌++◌, length, sym, refl, ap, arith, length-append}
+use Rattle.std.proofs.Common.{Vec, map, replicate, vec_items, vec_capacity, ap₂, ◌≡◌, ℕ, zero, suc, ◌<◌, ◌≤◌, Bool, true, false, cond, not, eqb, List, [], ◌∷◌, ◌++◌, length, sym, refl, ap, arith, length-append}
 use Rattle.std.specs.List.{All, AllByRecursion, IsDistinct}
-use Rattle.std.proofs.lemmas.Bool.{eqb-true, eq-eqb, true≢false}
+use Rattle.std.proofs.lemmas.Bool.{eqb-true, eq-eqb}
 use Rattle.std.proofs.lemmas.List.Folds.{Any-from_list_any}
 use Rattle.std.proofs.lemmas.List.Elements.{All-filter, All-append, All-nil}
 use Rattle.std.proofs.lemmas.Map.Keys.{IsDistinct-push}
@@ -59,3 +59,10 @@ room_to_join r n line e o =
 pub orderly_none : (n : ℕ) → Orderly n []
 unfolding IsDistinct
 orderly_none n = (All-nil (λ q. q < n), tt)
+
+-- a table of empty rows
+pub empty_rows : {A Z : Type 0} (n : ℕ) (rows : List (Vec A Z)) → length rows ≡ n → All (λ row. (vec_items row ≡ []) × (8 ≤ vec_capacity row)) rows → map vec_items rows ≡ replicate n []
+empty_rows zero [] l h = refl
+empty_rows zero (row ∷ rows) l h = absurd (omega arith)
+empty_rows (suc n) [] l h = absurd (omega arith)
+empty_rows (suc n) (row ∷ rows) l h = ap₂ ◌∷◌ (h 0 row (omega arith)).0 (empty_rows n rows (omega arith) (λ k d i. h (suc k) d (omega arith)))

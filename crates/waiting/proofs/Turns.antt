@@ -1,12 +1,12 @@
 -- Who is ahead in the line is served first.
-use Rattle.std.proofs.Common.{◌≡◌, ℕ, ◌+◌, ◌<◌, true, false, cond, not, ◌||◌, eqb, List, [], ◌∷◌, ◌++◌, length, Some, None, Option, sym, refl, ap, ◌∙◌, subst, ⊎_elim, arith, length-set}
-use Rattle.std.proofs.lemmas.Bool.{cases_Bool, cases_eq, eqb-true, eqb-false, ne_eqb, eq-eqb, and_parts, true≢false}
+use Rattle.std.proofs.Common.{◌≡◌, ℕ, ◌<◌, true, false, cond, not, ◌||◌, eqb, List, [], ◌∷◌, ◌++◌, length, Some, None, Option, sym, refl, ap, ◌∙◌, subst, ⊎_elim, arith, length-set}
+use Rattle.std.proofs.lemmas.Bool.{cases_Bool, cases_eq, eqb-true, ne_eqb, and_parts, true≢false}
 use Rattle.std.proofs.lemmas.List.Folds.{list_any-append}
 use Rattle.std.proofs.lemmas.Map.Views.{any-filter_same}
 use Rattle.std.proofs.lemmas.Bool.Decides.{nat_tests}
 use Rattle.waiting.specs.declared.wish.Side.{Side}
 use Rattle.waiting.specs.declared.wish.Entry.{Entry}
-use Rattle.waiting.specs.Queues.{Row, stands, places, queue, cases, first, waits, without, written, released}
+use Rattle.waiting.specs.Queues.{Row, places, queue, cases, first, waits, without, written, released}
 use Rattle.waiting.specs.Lines.{State}
 use Rattle.waiting.specs.Laws.{among, others, may_join}
 use Rattle.waiting.specs.Runs.{Step, joins, leaves, releases, step, run, remains, ahead, fronts, EarlierIsAhead, FirstComeFirstServed}

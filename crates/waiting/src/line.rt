@@ -11,7 +11,7 @@ pub struct Waiting<X> {
 }
 
 impl<X> Model for Waiting<X> {
-    ghost use Rattle.std.specs.Prelude.{◌≡◌, ◌≤◌, map, vec_items, vec_len, vec_capacity};
+    ghost use Rattle.std.specs.Prelude.{◌≡◌, ◌≤◌, length, map, vec_items, vec_len, vec_capacity};
     ghost use Rattle.std.specs.List.{All};
     ghost use Rattle.waiting.specs.Lines.{State};
     ghost use Rattle.waiting.specs.Queues.{Orderly};
@@ -20,5 +20,5 @@ impl<X> Model for Waiting<X> {
 
     ghost view = { λ w. record { line = w.line.items; table = map vec_items w.table.items } };
 
-    ghost invariant = { λ w. Orderly 64 w.line.items × (64 ≤ vec_capacity w.line) × (vec_len w.table ≡ 64) × All (λ row. (vec_len row ≤ 8) × (8 ≤ vec_capacity row)) w.table.items };
+    ghost invariant = { λ w. Orderly 64 w.line.items × (64 ≤ vec_capacity w.line) × (vec_len w.table ≡ 64) × All (λ row. (length row.items ≤ 8) × (8 ≤ vec_capacity row)) w.table.items };
 }

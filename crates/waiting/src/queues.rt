@@ -1,5 +1,5 @@
 // Joining the line, leaving it, and the queues that are read from it.
-ghost use Rattle.std.specs.Prelude.{◌≡◌, ◌≤◌, [], length, map, replicate, vec_items, vec_len, vec_capacity, IfOk};
+ghost use Rattle.std.specs.Prelude.{◌≡◌, ◌≤◌, [], length, vec_len, vec_capacity, IfOk};
 ghost use Rattle.std.specs.List.{All};
 ghost use Rattle.waiting.specs.Lines.{nobody};
 ghost use Rattle.waiting.specs.Queues.{queue, first as first_of, waits as is_waiting, Orderly, cases, without};
@@ -10,11 +10,10 @@ use crate::line::Waiting;
 use crate::wish::{Entry, Queue, Wish};
 use std::alloc::{AllocError, Global};
 
-// Writes a routine's cases into its row.
+// Writes a routine's cases into its row, which has room for them: joining needs no memory.
 fn lay<X: Copy>(row: &mut Vec<Option<Wish<X>>>, wishes: &[Option<Wish<X>>])
     requires { length wishes.now ≤ vec_capacity row.old }
     ensures items { row.new.items ≡ wishes.now }
-    ensures len { vec_len row.new ≡ length wishes.now }
     ensures room { vec_capacity row.new ≡ vec_capacity row.old }
 {
     row.clear();
@@ -33,13 +32,12 @@ fn strike(line: &mut Vec<u32>, routine: u32)
 
 // A table of 64 empty rows, with room for 8 cases in each.
 fn blank<X: Copy>(heap: Global) -> Result<Vec<Vec<Option<Wish<X>>>>, AllocError>
-    ensures { IfOk result (λ t. (map vec_items t.items ≡ replicate 64 []) × (vec_len t ≡ 64) × All (λ row. (vec_len row ≤ 8) × (8 ≤ vec_capacity row)) t.items) }
+    ensures len { IfOk result (λ t. vec_len t ≡ 64) }
+    ensures rows { IfOk result (λ t. All (λ row. (row.items ≡ []) × (8 ≤ vec_capacity row)) t.items) }
 {
-    let mut table = Vec::with_capacity(heap, 64)?;
-    for _k in 0..64_usize {
-        table.push_reserved(Vec::with_capacity(heap, 8)?);
-    }
-    Ok(table)
+    (0..64_usize)
+        .map(|_| Vec::with_capacity(heap, 8))
+        .try_collect(heap)
 }
 
 impl<X: Copy> Waiting<X> {
@@ -52,7 +50,7 @@ impl<X: Copy> Waiting<X> {
         Ok(Waiting { line, table })
     }
 
-    // How many routines wait.
+    // How many routines wait: at most 64, each of them one of the 64 and none twice.
     pub fn len(&self) -> usize
         ensures is { result ≡ length self.now.line }
         ensures few { result ≤ 64 }

@@ -1,9 +1,8 @@
 -- Who does not wait finds room, and its cases change nobody else's places.
-use Rattle.std.proofs.Common.{◌≡◌, ◌<◌, ◌≤◌, true, length, map, vec_items, vec_len, vec_capacity, sym, subst, refl, arith}
+use Rattle.std.proofs.Common.{◌<◌, ◌≤◌, length, map, vec_items, vec_capacity, sym, ap, subst, refl, arith}
 use Rattle.std.proofs.lemmas.List.{map-set, length-map}
 use Rattle.std.proofs.lemmas.List.Elements.{All-set}
 use Rattle.waiting.specs.Queues.{Orderly}
-use Rattle.waiting.specs.Laws.{may_join}
 use Rattle.waiting.proofs.Lines.{may_join_parts, room_to_join}
 use Rattle.waiting.proofs.Orders.{queue_joined}
 use Rattle.waiting.proofs.line.Waiting.join.Goals as goal
@@ -23,8 +22,8 @@ invariant_of-self g c =
       subst (Orderly 64) (sym c.push_reserved.ensures.items) (room_to_join c.args.routine (length c.args.wishes.now) c.self.inside.line.items (sym may) c.self.invariant.0).1,
       omega (arith, c.self.invariant.1, c.push_reserved.ensures.capacity),
       c.self.invariant.2,
-      All-set (λ row. (vec_len row ≤ 8) × (8 ≤ vec_capacity row)) c.self.inside.table.items c.args.routine c.lay.new.row
-          (omega (arith, parts.1, c.lay.ensures.len), omega (arith, c.lay.ensures.room, roomy)) c.self.invariant.3,
+      All-set (λ row. (length (vec_items row) ≤ 8) × (8 ≤ vec_capacity row)) c.self.inside.table.items c.args.routine c.lay.new.row
+          (omega (arith, parts.1, ap length c.lay.ensures.items), omega (arith, c.lay.ensures.room, roomy)) c.self.invariant.3,
     )
 
 pub returns-clause-steps : goal.returns-clause-steps

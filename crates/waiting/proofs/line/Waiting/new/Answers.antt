@@ -1,13 +1,17 @@
 -- Nobody waits.
-use Rattle.std.proofs.Common.{sym, subst, arith}
+use Rattle.std.proofs.Common.{sym, subst, refl, arith}
 use Rattle.waiting.specs.Queues.{Orderly}
-use Rattle.waiting.proofs.Lines.{orderly_none}
+use Rattle.waiting.proofs.Lines.{orderly_none, empty_rows}
 use Rattle.waiting.proofs.line.Waiting.new.Goals as goal
 
 pub invariant_of-result : goal.invariant_of-result
 invariant_of-result g c = (
   subst (Orderly 64) (sym c.in_ok-line.ensures.items) (orderly_none 64),
   omega (arith, c.in_ok-line.ensures.capacity),
-  c.in_ok-table.ensures.1,
-  c.in_ok-table.ensures.2,
+  c.in_ok-table.ensures.len,
+  λ k d i. let h = c.in_ok-table.ensures.rows k d i in (rw h.0 (omega arith), h.1),
 )
+
+pub returns : goal.returns
+returns g c =
+    rw (c.in_ok-line.ensures.items, empty_rows 64 c.in_ok-table.table.items (omega (arith, c.in_ok-table.ensures.len)) c.in_ok-table.ensures.rows) refl
