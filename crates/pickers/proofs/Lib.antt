@@ -1,4 +1,4 @@
 -- Lemmas that several proofs share.
-pub mod Replays
 pub mod Along
+pub mod Replays
 pub mod Decides

@@ -65,17 +65,6 @@ abbrev head_some : List (Option ℕ) → Bool
 head_some [] = true
 head_some (o ∷ os) = is_some o
 
--- the answers are as many as the queries
-abbrev Level : List Query → List (Option ℕ) → Type 0
-Level [] [] = Unit {0}
-Level [] (o ∷ os) = ⊥
-Level (q ∷ qs) [] = ⊥
-Level (q ∷ qs) (o ∷ os) = Level qs os
-
-level : (m : Meaning) (qs : List Query) → Level qs (answers m qs)
-level m [] = tt
-level m (q ∷ qs) = level (after m q) qs
-
 -- the parts of the law that speak of steady answers
 record Steadily (ps : List Pick) (qs : List Query) (os : List (Option ℕ)) : Type 0 where
   answered : answers (scheduled ps) (named qs os) ≡ naming os
@@ -83,12 +72,12 @@ record Steadily (ps : List Pick) (qs : List Query) (os : List (Option ℕ)) : Ty
   whole : steady qs os ≡ true → answers (scheduled ps) qs ≡ os
   exact : answers (scheduled ps) qs ≡ os → steady qs os ≡ true
 
-steadily : (qs : List Query) (os : List (Option ℕ)) → Level qs os → AllWithin qs os → Steadily (picks_of qs os) qs os
-steadily [] [] l w = record { answered = refl; spent = refl; whole = λ _. refl; exact = λ _. refl }
-steadily [] (o ∷ os) l w = absurd l
-steadily (q ∷ qs) [] l w = absurd l
-steadily (q ∷ qs) (None ∷ os) l w =
-    let r = steadily qs os l w.1 in
+steadily : (qs : List Query) (os : List (Option ℕ)) → AllWithin qs os → Steadily (picks_of qs os) qs os
+steadily [] [] w = record { answered = refl; spent = refl; whole = λ _. refl; exact = λ _. refl }
+steadily [] (o ∷ os) w = absurd w
+steadily (q ∷ qs) [] w = absurd w
+steadily (q ∷ qs) (None ∷ os) w =
+    let r = steadily qs os w.1 in
     record {
       answered = r.answered;
       spent = r.spent;
@@ -99,8 +88,8 @@ steadily (q ∷ qs) (None ∷ os) l w =
           let n : is_some (served (picks_of qs os) q) ≡ false = ap head_some e in
           and_from _ _ (not_from_false _ n) (r.exact (ap tail (sym (silent q (picks_of qs os) qs n) ∙ e)));
     }
-steadily (q ∷ qs) (Some k ∷ os) l w =
-    let r = steadily qs os l w.1 in
+steadily (q ∷ qs) (Some k ∷ os) w =
+    let r = steadily qs os w.1 in
     let ps = picks_of qs os in
     record {
       answered = ahead q k ps (named qs os) w.0 ∙ ap (λ l. Some k ∷ l) r.answered;
@@ -142,7 +131,7 @@ empty_steady (q ∷ qs) (Some k ∷ os) e = empty_steady qs os e
 pub replays : Replays
 replays m law qs =
     let os = answers m qs in
-    let s = steadily qs os (level m qs) (answers_within m law qs) in
+    let s = steadily qs os (answers_within m law qs) in
     record {
       answered = s.answered;
       spent = s.spent;

@@ -116,8 +116,8 @@ made_of_digits : (s : ℕ) → s < 2 ^ 8 → mask_l (map (has s) (range_with_len
 made_of_digits s l =
     same_from_bits_below 8 (mask_l (map (has s) (range_with_len 0 8))) s (mask_l-lt (map (has s) (range_with_len 0 8))) l
     (λ k m. bit_mask_l (map (has s) (range_with_len 0 8)) k
-      ∙ ap (λ b. cond b 1 0) (get_or-map-range_with_len (has s) 0 8 k k false m (omega arith))
-      ∙ digit_of s k (bit_at s k) m refl (bit_at-lt s k))
+    ∙ ap (λ b. cond b 1 0) (get_or-map-range_with_len (has s) 0 8 k k false m (omega arith))
+    ∙ digit_of s k (bit_at s k) m refl (bit_at-lt s k))
 
 pub cases_ones : (s : ℕ) → s < 2 ^ 8 → length (cases s) ≡ count_ones s
 unfolding cases
