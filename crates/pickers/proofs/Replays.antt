@@ -10,7 +10,7 @@ use Rattle.pickers.specs.Meaning.{Meaning, Lawful, answer, after, answers, after
 use Rattle.pickers.specs.Schedule.{serves, served, left, scheduled}
 use Rattle.pickers.specs.ScheduleFacts.{served_empty}
 use Rattle.pickers.specs.Choosing.{several, only, choices, consulted}
-use Rattle.pickers.specs.Recording.{AllWithin, picks_of, named, naming, steady, unnamed, none_last, none_at_empty, Replays, ReplaysChoices}
+use Rattle.pickers.specs.Recording.{AllWithin, picks_of, named, naming, steady, unnamed, none_last, none_at_empty, Replayed, ReplaysChoices}
 
 -- the answers of a lawful meaning lie in their sets
 pub answers_within : (m : Meaning) → Lawful m → (qs : List Query) → AllWithin qs (answers m qs)
@@ -128,7 +128,7 @@ empty_steady (q ∷ qs) (None ∷ os) e =
     (ap (λ o. not (is_some o)) (served_empty (picks_of qs os) q (eqb-true q.ready 0 b.0))) (empty_steady qs os b.1)
 empty_steady (q ∷ qs) (Some k ∷ os) e = empty_steady qs os e
 
-pub replays : Replays
+pub replays : (m : Meaning) → Lawful m → (qs : List Query) → Replayed (picks_of qs (answers m qs)) qs (answers m qs)
 replays m law qs =
     let os = answers m qs in
     let s = steadily qs os (answers_within m law qs) in

@@ -97,6 +97,9 @@ from_found s j p l =
     (λ i m. passed_over s j i (λ n. bit_from s j i n ∙ low.2 (i - j) (omega arith)))
     (and_from _ _ (has_in s (j + t) short bit) (le-leb j (j + t) (omega arith)))
 
+pub from_within : (s j : ℕ) → 0 < s / 2 ^ j → s < 2 ^ 8 → has s (j + trailing_zeros w8 (s / 2 ^ j)) ≡ true
+from_within s j p l = subst (OneOf s) (from_found s j p l) (onward_within s j)
+
 pub from_none : (s j : ℕ) → s / 2 ^ j ≡ 0 → onward j (cases s) ≡ []
 unfolding cases onward
 from_none s j e =

@@ -1,5 +1,5 @@
 // Asking a picker a list of queries: its answers, and its answers recorded as picks that a schedule can play again.
-ghost use Rattle.std.specs.Prelude.{◌≡◌, ◌+◌, ◌<◌, ◌≤◌, ◌++◌, Some, is_ok, IfOk, if◌then◌else◌, vec_len, vec_capacity};
+ghost use Rattle.std.specs.Prelude.{◌≡◌, ◌+◌, ◌<◌, ◌≤◌, ◌++◌, Some, is_ok, IfOk, if◌then◌else◌, length, vec_len, vec_capacity};
 ghost use Rattle.std.specs.Option.{option_to_list};
 ghost use Rattle.pickers.specs.Meaning.{answers, after_all};
 ghost use Rattle.pickers.specs.Recording.{AllWithin, Rule, noted, pick_of, picks_of, Replayed};
@@ -50,24 +50,23 @@ fn add<T: Drop>(notes: &mut Vec<T>, note: Option<T>)
     }
 }
 
-// What the queries and the picker's answers to them give to note. Where there is no memory for the notes, none is asked.
-fn note_all<P: Picker, T: Note>(
-    heap: Global,
-    picker: &mut P,
-    queries: &[Query],
-) -> Result<Vec<T>, AllocError>
-    ensures value { IfOk result (λ v. v.items ≡ noted T.rule queries.now (answers (P.meaning picker.old) queries.now)) }
-    ensures then { P.meaning picker.new ≡ (if is_ok result then after_all (P.meaning picker.old) queries.now else P.meaning picker.old) }
+// Notes what the queries and the picker's answers to them give to note, one after the other. Whatever is noted, the
+// answers lie in their sets, and the picks made of them give them again.
+fn note_each<P: Picker, T: Note>(picker: &mut P, queries: &[Query], notes: &mut Vec<T>)
+    requires { vec_len notes.old + length queries.now ≤ vec_capacity notes.old }
+    ensures items { notes.new.items ≡ notes.old.items ++ noted T.rule queries.now (answers (P.meaning picker.old) queries.now) }
+    ensures then { P.meaning picker.new ≡ after_all (P.meaning picker.old) queries.now }
+    ensures within { AllWithin queries.now (answers (P.meaning picker.old) queries.now) }
+    ensures replayed { let os = answers (P.meaning picker.old) queries.now in Replayed (picks_of queries.now os) queries.now os }
 {
-    let mut notes = Vec::with_capacity(heap, queries.len())?;
     for query in queries {
         let answer = picker.pick(*query);
-        add(&mut notes, T::note(*query, answer));
+        add(notes, T::note(*query, answer));
     }
-    Ok(notes)
 }
 
 // The picker's answers to the queries, one after the other. Where there is no memory for them, none is asked.
+#[tactic(auto, using(crate::proofs::Along::every_answer))]
 pub fn ask_all<P: Picker>(
     heap: Global,
     picker: &mut P,
@@ -77,7 +76,9 @@ pub fn ask_all<P: Picker>(
     ensures then { P.meaning picker.new ≡ (if is_ok result then after_all (P.meaning picker.old) queries.now else P.meaning picker.old) }
     ensures within { IfOk result (λ v. AllWithin queries.now v.items) }
 {
-    note_all::<P, Option<u8>>(heap, picker, queries)
+    let mut answers = Vec::with_capacity(heap, queries.len())?;
+    note_each(picker, queries, &mut answers);
+    Ok(answers)
 }
 
 // The picks that the picker's answers to the queries make. Where there is no memory for them, none is asked.
@@ -90,5 +91,7 @@ pub fn record_picks<P: Picker>(
     ensures then { P.meaning picker.new ≡ (if is_ok result then after_all (P.meaning picker.old) queries.now else P.meaning picker.old) }
     ensures replayed { IfOk result (λ v. Replayed v.items queries.now (answers (P.meaning picker.old) queries.now)) }
 {
-    note_all::<P, Pick>(heap, picker, queries)
+    let mut picks = Vec::with_capacity(heap, queries.len())?;
+    note_each(picker, queries, &mut picks);
+    Ok(picks)
 }

@@ -21,13 +21,16 @@ pub fn has(ready: u8, case: u32) -> bool
 }
 
 // The lowest ready case that is not below `from`, if there is one.
-#[tactic(auto, using(crate::specs::SetFacts::from_found, crate::specs::SetFacts::from_none, crate::specs::SetFacts::from_past))]
+#[tactic(auto, using(crate::specs::SetFacts::from_found, crate::specs::SetFacts::from_within, crate::specs::SetFacts::from_none, crate::specs::SetFacts::from_past))]
 pub fn lowest_from(ready: u8, from: u32) -> Option<u8>
     ensures value { result ≡ first (onward from (cases ready)) }
     ensures within { OneOf ready result }
 {
     let high = ready.checked_shr(from)?;
-    (high != 0).then(|| (from + high.trailing_zeros()) as u8)
+    if high == 0 {
+        return None;
+    }
+    Some((from + high.trailing_zeros()) as u8)
 }
 
 // The lowest ready case, if there is one.
