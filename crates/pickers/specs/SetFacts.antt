@@ -109,6 +109,9 @@ from_none s j e =
 pub from_past : (s j : ℕ) → s < 2 ^ 8 → 8 ≤ j → first (onward j (cases s)) ≡ None
 from_past s j l h = ap first (from_none s j (div-eq_of_lt (le_trans l (pow_mono h))))
 
+-- what is found from a place on
+pub ruleset found_from = (from_found, from_within, from_none, from_past)
+
 -- the number is made of its digits, so that it has a 1 for each ready case
 digit_of : (s k b : ℕ) → k < 8 → bit_at s k ≡ b → b < 2 → cond (has s k) 1 0 ≡ b
 digit_of s k zero l e m = rw (has_out s k e) refl

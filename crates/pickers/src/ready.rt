@@ -3,6 +3,8 @@
 ghost use Rattle.std.specs.Prelude.{◌≡◌, ◌<◌, true, length};
 ghost use Rattle.pickers.specs.Sets.{has as has_case, cases, onward, first, OneOf};
 
+use std::num::NonZeroU8;
+
 // How many cases are ready.
 #[tactic(auto, using(crate::specs::SetFacts::cases_ones))]
 pub fn count(ready: u8) -> u32
@@ -21,15 +23,12 @@ pub fn has(ready: u8, case: u32) -> bool
 }
 
 // The lowest ready case that is not below `from`, if there is one.
-#[tactic(auto, using(crate::specs::SetFacts::from_found, crate::specs::SetFacts::from_within, crate::specs::SetFacts::from_none, crate::specs::SetFacts::from_past))]
+#[tactic(auto, using(crate::specs::SetFacts::found_from))]
 pub fn lowest_from(ready: u8, from: u32) -> Option<u8>
     ensures value { result ≡ first (onward from (cases ready)) }
     ensures within { OneOf ready result }
 {
-    let high = ready.checked_shr(from)?;
-    if high == 0 {
-        return None;
-    }
+    let high = NonZeroU8::new(ready.checked_shr(from)?)?;
     Some((from + high.trailing_zeros()) as u8)
 }
 
