@@ -35,7 +35,10 @@ fn answer(rt: &HostRuntime, picks: &[Pick], queries: &[Query]) -> anyhow::Result
     for &query in queries {
         let turned = choose(&mut turning, query);
         let played = choose(&mut schedule, query);
-        println!(rt; "routine {}: turning {turned}, schedule {played}", query.routine)?;
+        println!(rt;
+            "routine {}: turning {turned}, schedule {played}",
+            query.routine
+        )?;
         if matches!(turned, Choice::Asked(_)) {
             asked.push(query)?;
         }
