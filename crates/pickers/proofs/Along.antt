@@ -12,17 +12,17 @@ pub record Along {T : Type 0} (rule : Rule T) (m₀ m : Meaning) (ns₀ ns : Lis
   pub notes : ns ++ noted rule (drop i qs) (answers m (drop i qs)) ≡ ns₀ ++ noted rule qs (answers m₀ qs)
   pub then : after_all m (drop i qs) ≡ after_all m₀ qs
 
-pub along_none : {T : Type 0} (rule : Rule T) (m : Meaning) (ns : List T) (qs : List Query) → Along rule m m ns ns qs 0
-along_none rule m ns qs = record { notes = refl; then = refl }
+pub along_none : {T : Type 0} {rule : Rule T} {m : Meaning} {ns : List T} {qs : List Query} → Along rule m m ns ns qs 0
+along_none = record { notes = refl; then = refl }
 
 then_noted : {T : Type 0} (ns rest : List T) (o : Option T) → (ns ++ option_to_list o) ++ rest ≡ ns ++ cons_option o rest
 then_noted ns rest None = ap (λ l. l ++ rest) (append-nil ns)
 then_noted ns rest (Some x) = append_assoc ns (x ∷ []) rest
 
-pub along_more : {T : Type 0} (rule : Rule T) (m₀ m m' : Meaning) (ns₀ ns ns' : List T) (qs : List Query) (i : ℕ) (d : Query)
+pub along_more : {T : Type 0} {rule : Rule T} {m₀ m m' : Meaning} {ns₀ ns ns' : List T} {qs : List Query} {i : ℕ} (d : Query)
     → Along rule m₀ m ns₀ ns qs i → i < length qs → m' ≡ after m (get_or qs i d)
     → ns' ≡ ns ++ option_to_list (rule (get_or qs i d) (answer m (get_or qs i d))) → Along rule m₀ m' ns₀ ns' qs (i + 1)
-along_more rule m₀ m m' ns₀ ns ns' qs i d a l em en =
+along_more {rule} {m} {m'} {ns} {qs} {i} d a l em en =
     let rest = drop (i + 1) qs in
     let q = get_or qs i d in
     let split : drop i qs ≡ q ∷ rest = drop_more qs i d l in
@@ -36,9 +36,9 @@ along_more rule m₀ m m' ns₀ ns ns' qs i d a l em en =
       then = ap (λ x. after_all x rest) em ∙ sym (ap (after_all m) split) ∙ a.then;
     }
 
-pub along_all : {T : Type 0} (rule : Rule T) (m₀ m : Meaning) (ns₀ ns : List T) (qs : List Query) (i : ℕ)
+pub along_all : {T : Type 0} {rule : Rule T} {m₀ m : Meaning} {ns₀ ns : List T} {qs : List Query} {i : ℕ}
     → Along rule m₀ m ns₀ ns qs i → length qs ≤ i → (ns ≡ ns₀ ++ noted rule qs (answers m₀ qs)) × (m ≡ after_all m₀ qs)
-along_all rule m₀ m ns₀ ns qs i a l =
+along_all {rule} {m} {ns} {qs} {i} a l =
     let gone : drop i qs ≡ [] = drop_all i qs l in (
       sym (append-nil ns) ∙ sym (ap (λ x. ns ++ noted rule x (answers m x)) gone) ∙ a.notes,
       sym (ap (after_all m) gone) ∙ a.then,

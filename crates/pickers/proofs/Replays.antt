@@ -70,8 +70,8 @@ steadily (q ∷ qs) (Some k ∷ os) w =
     record {
       answered = ahead q k ps (named qs os) w.0 ∙ ap (λ l. Some k ∷ l) r.answered;
       spent =
-          ap (λ b. after_all (scheduled (cond b ps (record { routine = q.routine; case = k } ∷ ps))) (named qs os)) (own_pick q k w.0)
-          ∙ r.spent;
+          let p : Pick = record { routine = q.routine; case = k } in
+          ap (λ b. after_all (scheduled (cond b ps (p ∷ ps))) (named qs os)) (own_pick q k w.0) ∙ r.spent;
       whole = λ e. ahead q k ps qs w.0 ∙ ap (λ l. Some k ∷ l) (r.whole e);
       exact = λ e. let a = ahead q k ps qs w.0 in let x : answers (scheduled ps) qs ≡ os = cc in r.exact x;
     }
@@ -118,10 +118,12 @@ replays m law qs =
     }
 
 -- two meanings that answer alike where they are asked lead to the same choices
-alike : (q : Query) (qs : List Query) → ((m n : Meaning) → answers m (consulted qs) ≡ answers n (consulted qs) → choices m qs ≡ choices n qs)
+alike : (q : Query) (qs : List Query)
+    → ((m n : Meaning) → answers m (consulted qs) ≡ answers n (consulted qs) → choices m qs ≡ choices n qs)
     → (m n : Meaning) (other : Choice) (b : Bool)
     → answers m (cond b (q ∷ consulted qs) (consulted qs)) ≡ answers n (cond b (q ∷ consulted qs) (consulted qs))
-    → cond b (Asked (answer m q)) other ∷ choices (cond b (after m q) m) qs ≡ cond b (Asked (answer n q)) other ∷ choices (cond b (after n q) n) qs
+    → cond b (Asked (answer m q)) other ∷ choices (cond b (after m q) m) qs
+    ≡ cond b (Asked (answer n q)) other ∷ choices (cond b (after n q) n) qs
 alike q qs rest m n other true e =
     let x : answers (after m q) (consulted qs) ≡ answers (after n q) (consulted qs) = cc in
     let c = rest (after m q) (after n q) x in

@@ -1,5 +1,6 @@
 -- Recording a picker's answers as picks, and playing the picks again.
-use Rattle.std.specs.Prelude.{◌≡◌, ℕ, ◌^◌, ◌<◌, Bool, true, not, ◌&&◌, List, [], ◌∷◌, is_some, Some, None, Option, ◌==◌, filter, filter_map, zip, option_map}
+use Rattle.std.specs.Prelude.{◌≡◌, ℕ, ◌^◌, ◌<◌, Bool, true, not, ◌&&◌, ◌==◌}
+use Rattle.std.specs.Prelude.{List, [], ◌∷◌, is_some, Some, None, Option, filter, filter_map, zip, option_map}
 use Rattle.std.specs.List.{AllByRecursion, AllZip, list_all}
 use Rattle.std.specs.Option.{is_none}
 use Rattle.pickers.specs.declared.picker.Query.{Query}

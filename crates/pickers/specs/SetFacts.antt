@@ -1,6 +1,7 @@
 -- Facts on ready sets: their cases in order against the binary digits of the number. They stand here, and not in
 -- proofs/, since the laws of the two pickers, which their `lawful` members cite, rest on them.
-use Rattle.std.specs.Prelude.{◌≡◌, ℕ, zero, suc, ◌+◌, ◌-◌, ◌/◌, ◌%◌, ◌^◌, ◌<◌, ◌≤◌, Bool, true, false, cond, ◌&&◌, List, [], ◌∷◌, length, Some, None, ◌==◌, nat_le, nat_lt, refl, filter, count_ones, All}
+use Rattle.std.specs.Prelude.{◌≡◌, ℕ, zero, suc, ◌+◌, ◌-◌, ◌/◌, ◌%◌, ◌^◌, ◌<◌, ◌≤◌, Bool, true, false, cond, ◌&&◌, refl}
+use Rattle.std.specs.Prelude.{List, [], ◌∷◌, length, Some, None, ◌==◌, nat_le, nat_lt, filter, count_ones, All}
 use Rattle.std.proofs.Common.{sym, ap, ◌∙◌, subst, inl, inr, suc-le-suc, le_trans, arith, pow_mono, map}
 use Rattle.std.proofs.Math.Nat.{div-eq_of_lt}
 use Rattle.std.specs.Int.{bit_at, trailing_zeros, w8}
@@ -57,7 +58,8 @@ lowest_within s = first_within s (cases s) (filter_passes (has s) (range_with_le
 pub onward_within : (s j : ℕ) → OneOf s (first (onward j (cases s)))
 unfolding cases onward
 onward_within s j =
-    first_within s (onward j (cases s)) (All-filter (nat_le j) (λ k. has s k ≡ true) (cases s) (filter_passes (has s) (range_with_len 0 8)))
+    first_within s (onward j (cases s))
+    (All-filter (nat_le j) (λ k. has s k ≡ true) (cases s) (filter_passes (has s) (range_with_len 0 8)))
 
 pub onward_all : (ks : List ℕ) → onward 0 ks ≡ ks
 unfolding onward
@@ -91,7 +93,10 @@ from_found s j p l =
     let t = trailing_zeros w8 (s / 2 ^ j) in
     let low = bit_at-trailing_zeros w8 (s / 2 ^ j) p (le_trans (suc-le-suc (shr_le s j)) l) in
     let bit : bit_at s (j + t) ≡ 1 = sym (ap (λ m. m % 2) (shr-shr s j t)) ∙ low.1 in
-    let short : j + t < 8 = elim (cases_lt (j + t) 8) [ inl h ↦ h | inr h ↦ absurd (omega (arith, bit_at_above s 8 (j + t) l h, bit)) ] in
+    let short : j + t < 8 = elim (cases_lt (j + t) 8) [
+      | inl h ↦ h
+      | inr h ↦ absurd (omega (arith, bit_at_above s 8 (j + t) l h, bit))
+    ] in
     ap first (both_tests (has s) (nat_le j) (range_with_len 0 8))
     ∙ first_passes (λ k. has s k && nat_le j k) 8 0 (j + t) (omega arith) short
     (λ i m. passed_over s j i (λ n. bit_from s j i n ∙ low.2 (i - j) (omega arith)))
@@ -104,7 +109,8 @@ pub from_none : (s j : ℕ) → s / 2 ^ j ≡ 0 → onward j (cases s) ≡ []
 unfolding cases onward
 from_none s j e =
     both_tests (has s) (nat_le j) (range_with_len 0 8)
-    ∙ none_pass (λ k. has s k && nat_le j k) 8 0 (λ k _. passed_over s j k (λ l. bit_from s j k l ∙ ap (λ n. bit_at n (k - j)) e ∙ bit_at-zero (k - j)))
+    ∙ none_pass (λ k. has s k && nat_le j k) 8 0
+    (λ k _. passed_over s j k (λ l. bit_from s j k l ∙ ap (λ n. bit_at n (k - j)) e ∙ bit_at-zero (k - j)))
 
 pub from_past : (s j : ℕ) → s < 2 ^ 8 → 8 ≤ j → first (onward j (cases s)) ≡ None
 from_past s j l h = ap first (from_none s j (div-eq_of_lt (le_trans l (pow_mono h))))

@@ -73,7 +73,7 @@ pub fn ask_all<P: Picker>(
     queries: &[Query],
 ) -> Result<Vec<Option<u8>>, AllocError>
     ensures value { IfOk result (λ v. v.items ≡ answers (P.meaning picker.old) queries.now) }
-    ensures then { P.meaning picker.new ≡ (if is_ok result then after_all (P.meaning picker.old) queries.now else P.meaning picker.old) }
+    ensures then { let m = P.meaning picker.old in P.meaning picker.new ≡ (if is_ok result then after_all m queries.now else m) }
     ensures within { IfOk result (λ v. AllWithin queries.now v.items) }
 {
     let mut answers = Vec::with_capacity(heap, queries.len())?;
@@ -88,7 +88,7 @@ pub fn record_picks<P: Picker>(
     queries: &[Query],
 ) -> Result<Vec<Pick>, AllocError>
     ensures value { IfOk result (λ v. v.items ≡ picks_of queries.now (answers (P.meaning picker.old) queries.now)) }
-    ensures then { P.meaning picker.new ≡ (if is_ok result then after_all (P.meaning picker.old) queries.now else P.meaning picker.old) }
+    ensures then { let m = P.meaning picker.old in P.meaning picker.new ≡ (if is_ok result then after_all m queries.now else m) }
     ensures replayed { IfOk result (λ v. Replayed v.items queries.now (answers (P.meaning picker.old) queries.now)) }
 {
     let mut picks = Vec::with_capacity(heap, queries.len())?;

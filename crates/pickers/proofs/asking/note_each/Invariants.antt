@@ -5,6 +5,8 @@ use Rattle.pickers.proofs.asking.note_each.Given as goal
 
 abbrev pub invariant-loop-query : goal.invariant-loop-query
 invariant-loop-query g l = record {
-  along : Along g.T.Note.rule (g.P.Picker.meaning l.initial.picker) (g.P.Picker.meaning l.picker) (vec_items l.initial.notes) (vec_items l.notes) l.queries l.query-index;
+  along :
+      Along g.T.Note.rule (g.P.Picker.meaning l.initial.picker) (g.P.Picker.meaning l.picker)
+      (vec_items l.initial.notes) (vec_items l.notes) l.queries l.query-index;
   room : vec_len l.notes + length l.queries ≤ vec_capacity l.notes + l.query-index;
 }
