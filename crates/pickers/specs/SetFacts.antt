@@ -79,7 +79,7 @@ cases_empty = none_pass (has 0) 8 0 (λ k _. has_none k)
 bit_from : (s j k : ℕ) → j ≤ k → bit_at s k ≡ bit_at (s / 2 ^ j) (k - j)
 bit_from s j k l = let q : k ≡ j + (k - j) = omega arith in ap (bit_at s) q ∙ sym (ap (λ m. m % 2) (shr-shr s j (k - j)))
 
--- what stands in no set from j on, and what stands below j
+-- a case below j, or one that is not ready, is passed over
 passed_over : (s j k : ℕ) → (j ≤ k → bit_at s k ≡ 0) → has s k && nat_le j k ≡ false
 passed_over s j k h = elim (cases_lt k j) [
   | inl l ↦ and_right (has s k) (nat_le j k) (lt-leb j k l)

@@ -8,9 +8,9 @@ use crate::picker::{Picker, Query};
 use crate::schedule::Pick;
 use std::alloc::{AllocError, Global};
 
-// What may be noted of a query and a picker's answer to it.
+// A note on a query and a picker's answer to it.
 trait Note: Sized + Drop {
-    // What they give to note, if they give anything.
+    // Which note they give, if they give one.
     ghost rule: { Rule Self };
 
     fn note(query: Query, answer: Option<u8>) -> Option<Self>
@@ -31,9 +31,9 @@ impl Note for Pick {
     ghost rule = { pick_of };
 
     fn note(query: Query, answer: Option<u8>) -> Option<Pick> {
-        Some(Pick {
+        answer.map(|case| Pick {
             routine: query.routine,
-            case: u32::from(answer?),
+            case: u32::from(case),
         })
     }
 }
@@ -50,8 +50,8 @@ fn add<T: Drop>(notes: &mut Vec<T>, note: Option<T>)
     }
 }
 
-// Notes what the queries and the picker's answers to them give to note, one after the other. Whatever is noted, the
-// answers lie in their sets, and the picks made of them give them again.
+// Asks the queries, one after the other, and keeps the notes on the answers. Whatever the notes are, the answers lie in
+// their sets, and the picks made of them give them again.
 fn note_each<P: Picker, T: Note>(picker: &mut P, queries: &[Query], notes: &mut Vec<T>)
     requires { vec_len notes.old + length queries.now ≤ vec_capacity notes.old }
     ensures items { notes.new.items ≡ notes.old.items ++ noted T.rule queries.now (answers (P.meaning picker.old) queries.now) }

@@ -1,4 +1,5 @@
-// The entries of the input: picks and queries, read from lines.
+// The entries of the input: picks and queries, read from lines. A refused line is told by its number alone, so that reading
+// gives an `Option`: an error type, as `FromStr` wants one, would say no more.
 use pickers::{Pick, Query};
 
 // What one line says.
