@@ -1,5 +1,4 @@
 -- Lemmas that several proofs share.
-pub mod Served
-pub mod Replays
 pub mod Along
+pub mod Replays
 pub mod Decides

@@ -1,5 +1,5 @@
 -- The case that a select takes: a picker is asked only where two or more cases are ready.
-use Rattle.std.specs.Prelude.{ℕ, Bool, cond, List, [], ◌∷◌, length, Some, None, Option, nat_le}
+use Rattle.std.specs.Prelude.{ℕ, Bool, cond, List, [], ◌∷◌, length, Some, None, Option, nat_le, filter}
 use Rattle.pickers.specs.declared.picker.Query.{Query}
 use Rattle.pickers.specs.declared.choosing.Choice.{Choice}
 use Rattle.pickers.specs.declared.choosing.Choice.TheVariants.{NoneReady, OneReady, Asked}
@@ -35,5 +35,4 @@ choices m (q ∷ qs) = chosen m q ∷ choices (after_choice m q) qs
 
 -- the queries at which the picker is asked
 abbrev pub consulted : List Query → List Query
-consulted [] = []
-consulted (q ∷ qs) = cond (several q) (q ∷ consulted qs) (consulted qs)
+consulted qs = filter several qs

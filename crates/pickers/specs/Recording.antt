@@ -1,5 +1,8 @@
 -- Recording a picker's answers as picks, and playing the picks again.
-use Rattle.std.specs.Prelude.{◌≡◌, ℕ, ◌^◌, ◌<◌, Bool, true, false, not, ◌&&◌, List, [], ◌∷◌, ◌++◌, is_some, Some, None, Option, ◌==◌}
+use Rattle.std.specs.Prelude.{◌≡◌, ℕ, ◌^◌, ◌<◌, Bool, true, not, ◌&&◌, ◌==◌}
+use Rattle.std.specs.Prelude.{List, [], ◌∷◌, is_some, Some, None, Option, filter, filter_map, zip, option_map}
+use Rattle.std.specs.List.{AllByRecursion, AllZip, list_all}
+use Rattle.std.specs.Option.{is_none}
 use Rattle.pickers.specs.declared.picker.Query.{Query}
 use Rattle.pickers.specs.declared.schedule.Pick.{Pick}
 use Rattle.pickers.specs.Sets.{OneOf}
@@ -8,22 +11,25 @@ use Rattle.pickers.specs.Schedule.{served, scheduled}
 use Rattle.pickers.specs.Turning.{turning}
 use Rattle.pickers.specs.Choosing.{choices, consulted}
 
--- each answer is none or a case of its query's set
+-- there are as many answers as queries, and each is none or a case of its query's set
 abbrev pub AllWithin : List Query → List (Option ℕ) → Type 0
-AllWithin [] os = Unit {0}
-AllWithin (q ∷ qs) [] = Unit {0}
-AllWithin (q ∷ qs) (o ∷ os) = OneOf q.ready o × AllWithin qs os
+AllWithin qs os = AllZip (λ q o. OneOf q.ready o) qs os
+
+-- what is noted of a query and its answer, if anything is
+abbrev pub Rule : Type 0 → Type 0
+Rule T = Query → Option ℕ → Option T
+
+-- the notes that a rule makes of a list of queries and their answers
+abbrev pub noted : {T : Type 0} → Rule T → List Query → List (Option ℕ) → List T
+noted rule qs os = filter_map (λ p. rule p.0 p.1) (zip qs os)
 
 -- the pick that a query and its answer make, if a case was named
-abbrev pub pick_of : Query → Option ℕ → List Pick
-pick_of q None = []
-pick_of q (Some k) = record { routine = q.routine; case = k } ∷ []
+abbrev pub pick_of : Rule Pick
+pick_of q o = option_map (λ k. record { routine = q.routine; case = k }) o
 
 -- the picks that a list of queries and their answers make
 abbrev pub picks_of : List Query → List (Option ℕ) → List Pick
-picks_of [] os = []
-picks_of (q ∷ qs) [] = []
-picks_of (q ∷ qs) (o ∷ os) = pick_of q o ++ picks_of qs os
+picks_of qs os = noted pick_of qs os
 
 -- the queries to which a case was named, and the answers that name one
 abbrev pub named : List Query → List (Option ℕ) → List Query
@@ -33,9 +39,7 @@ named (q ∷ qs) (None ∷ os) = named qs os
 named (q ∷ qs) (Some k ∷ os) = q ∷ named qs os
 
 abbrev pub naming : List (Option ℕ) → List (Option ℕ)
-naming [] = []
-naming (None ∷ os) = naming os
-naming (Some k ∷ os) = Some k ∷ naming os
+naming os = filter is_some os
 
 -- Whether the pick that comes next never serves a query that got no case.
 abbrev pub steady : List Query → List (Option ℕ) → Bool
@@ -47,9 +51,7 @@ steady (q ∷ qs) (Some k ∷ os) = steady qs os
 -- Two ways to be steady: no case is named after the first none, as in a run that ends there, or none is answered to
 -- empty sets alone.
 abbrev pub unnamed : List (Option ℕ) → Bool
-unnamed [] = true
-unnamed (None ∷ os) = unnamed os
-unnamed (Some k ∷ os) = false
+unnamed os = list_all is_none os
 
 abbrev pub none_last : List (Option ℕ) → Bool
 none_last [] = true
@@ -84,8 +86,7 @@ ReplaysChoices = (m : Meaning) → Lawful m → (qs : List Query)
 
 -- every set is one of the cases 0 to 7
 abbrev pub Small : List Query → Type 0
-Small [] = Unit {0}
-Small (q ∷ qs) = (q.ready < 2 ^ 8) × Small qs
+Small qs = AllByRecursion (λ q. q.ready < 2 ^ 8) qs
 
 -- A turning picker names a case wherever one is ready, so that all of its answers are played again.
 abbrev pub TurningDecides : Type 0

@@ -1,16 +1,12 @@
 -- What a turning picker means: the cases take turns.
-use Rattle.std.specs.Prelude.{ℕ, ◌+◌, [], ◌∷◌, Some, None, Option}
-use Rattle.std.specs.Option.{unwrap_or}
+use Rattle.std.specs.Prelude.{ℕ, ◌+◌, [], ◌∷◌, Option}
+use Rattle.std.specs.Option.{unwrap_or, option_or}
 use Rattle.pickers.specs.Sets.{cases, onward, first}
 use Rattle.pickers.specs.Meaning.{Meaning}
 
-abbrev pub or_else : Option ℕ → Option ℕ → Option ℕ
-or_else None other = other
-or_else (Some k) other = Some k
-
 -- the lowest ready case above the last answer, else the lowest ready case
 abbrev pub turned : ℕ → ℕ → Option ℕ
-turned last s = or_else (first (onward (last + 1) (cases s))) (first (cases s))
+turned last s = option_or (first (onward (last + 1) (cases s))) (first (cases s))
 
 -- the meaning from a last answer on
 abbrev pub turning : ℕ → Meaning

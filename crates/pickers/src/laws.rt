@@ -11,6 +11,7 @@ pub fn replays_stand()
 {}
 
 // The worked examples, each one computed from the definitions.
+#[tactic(auto, unfolding(crate::specs::Sets::has, crate::specs::Sets::cases, crate::specs::Sets::onward))]
 pub fn examples_stand()
     ensures { Examples }
 {}

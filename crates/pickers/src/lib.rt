@@ -3,7 +3,6 @@
 
 mod asking;
 mod choosing;
-mod digits;
 mod laws;
 mod picker;
 pub mod ready;

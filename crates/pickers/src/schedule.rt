@@ -47,9 +47,7 @@ impl<'a> Picker for Schedule<'a> {
 
     // Answers the first pick's case and drops that pick, if it names this routine and a ready case.
     fn pick(&mut self, query: Query) -> Option<u8> {
-        let [first, rest @ ..] = self.picks else {
-            return None;
-        };
+        let (first, rest) = self.picks.split_first()?;
         if !first.serves(query) {
             return None;
         }

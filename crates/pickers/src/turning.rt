@@ -29,13 +29,9 @@ impl Picker for Turning {
     ghost lawful = { λ t. turning_lawful t.last };
 
     fn pick(&mut self, query: Query) -> Option<u8> {
-        let case = match lowest_from(query.ready, u32::from(self.last) + 1) {
-            Some(case) => Some(case),
-            None => lowest(query.ready),
-        };
-        if let Some(case) = case {
-            self.last = case;
-        }
-        case
+        let above = lowest_from(query.ready, u32::from(self.last) + 1);
+        let case = above.or_else(|| lowest(query.ready))?;
+        self.last = case;
+        Some(case)
     }
 }

@@ -1,4 +1,5 @@
-// The entries of the input: picks and queries, read from lines.
+// The entries of the input: picks and queries, read from lines. A refused line is told by its number alone, so that reading
+// gives an `Option`: an error type, as `FromStr` wants one, would say no more.
 use pickers::{Pick, Query};
 
 // What one line says.
@@ -9,7 +10,7 @@ pub(crate) enum Entry {
 
 // A whole number.
 fn read_number(word: &str) -> Option<u32> {
-    word.parse::<u32>().ok()
+    word.parse().ok()
 }
 
 // A pick, from the words after `PK`: a routine and a case.
@@ -21,26 +22,16 @@ fn read_pick(text: &str) -> Option<Pick> {
     })
 }
 
-// The set of the cases that the words name.
+// The set of the cases that the words name, each from 0 to 7.
 fn read_set(text: &str) -> Option<u8> {
-    let mut ready = 0u8;
-    for word in text.split_whitespace() {
-        let case = read_number(word)?;
-        if case > 7 {
-            return None;
-        }
-        ready |= 1 << case;
-    }
-    Some(ready)
+    text.split_whitespace().try_fold(0, |ready, word| {
+        Some(ready | 1u8.checked_shl(read_number(word)?)?)
+    })
 }
 
 // A query: a routine, and the cases that are ready.
 fn read_query(text: &str) -> Option<Query> {
-    let text = text.trim();
-    let (routine, cases) = match text.split_once(' ') {
-        Some((routine, cases)) => (routine, cases),
-        None => (text, ""),
-    };
+    let (routine, cases) = text.split_once(' ').unwrap_or((text, ""));
     Some(Query {
         routine: read_number(routine)?,
         ready: read_set(cases)?,
@@ -49,8 +40,9 @@ fn read_query(text: &str) -> Option<Query> {
 
 // The entry of a line, if it has the form of one.
 pub(crate) fn read_entry(line: &str) -> Option<Entry> {
-    match line.trim().strip_prefix("PK ") {
-        Some(rest) => Some(Entry::Pick(read_pick(rest)?)),
-        None => Some(Entry::Query(read_query(line)?)),
+    let line = line.trim();
+    match line.strip_prefix("PK ") {
+        Some(rest) => read_pick(rest).map(Entry::Pick),
+        None => read_query(line).map(Entry::Query),
     }
 }

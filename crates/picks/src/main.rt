@@ -12,80 +12,51 @@ mod entries;
 
 use entries::{Entry, read_entry};
 use pickers::{Choice, Pick, Query, Schedule, Turning, choose, record_picks};
-use std::fmt;
 
-// A choice as it is printed.
-#[derive(Drop)]
-struct Shown(Choice);
-
-impl fmt::Display for Shown {
-    fn fmt<W: fmt::Write>(&self, f: &mut fmt::Formatter<W>) -> fmt::Result {
-        match self.0 {
-            Choice::NoneReady => write!(f, "none not asked"),
-            Choice::OneReady(case) => write!(f, "{case} not asked"),
-            Choice::Asked(None) => write!(f, "none asked"),
-            Choice::Asked(Some(case)) => write!(f, "{case} asked"),
-        }
-    }
-}
-
-// Takes each line of the input into the picks or the queries, and tells of a line that is neither.
-fn read(rt: &HostRuntime, picks: &mut Vec<Pick>, queries: &mut Vec<Query>) -> anyhow::Result<()> {
-    let mut number = 0u64;
-    for line in rt.lines(rt.alloc()) {
-        number = number.saturating_add(1);
+// The picks and the queries of the input, each in its order. It tells of a line that is neither.
+fn read(rt: &HostRuntime) -> anyhow::Result<(Vec<Pick>, Vec<Query>)> {
+    let mut picks = Vec::new(rt.alloc());
+    let mut queries = Vec::new(rt.alloc());
+    for (number, line) in (1u64..).zip(rt.lines(rt.alloc())) {
         match read_entry(line?.as_str()) {
             Some(Entry::Pick(pick)) => picks.push(pick)?,
             Some(Entry::Query(query)) => queries.push(query)?,
             None => println!(rt; "line {number} is neither a pick nor a query")?,
         }
     }
-    Ok(())
+    Ok((picks, queries))
 }
 
-// Puts each query to both pickers, prints what they choose, and keeps the queries at which a picker was asked.
-fn answer(
-    rt: &HostRuntime,
-    picks: &[Pick],
-    queries: &[Query],
-    asked: &mut Vec<Query>,
-) -> anyhow::Result<()> {
+// Puts each query to both pickers and prints what they choose. The result is the queries at which a picker was asked.
+fn answer(rt: &HostRuntime, picks: &[Pick], queries: &[Query]) -> anyhow::Result<Vec<Query>> {
+    let mut asked = Vec::new(rt.alloc());
     let mut turning = Turning::new();
     let mut schedule = Schedule::new(picks);
-    for query in queries {
-        let turned = choose(&mut turning, *query);
-        let played = choose(&mut schedule, *query);
+    for &query in queries {
+        let turned = choose(&mut turning, query);
+        let played = choose(&mut schedule, query);
         println!(rt;
-            "routine {}: turning {}, schedule {}",
-            query.routine,
-            Shown(turned),
-            Shown(played)
+            "routine {}: turning {turned}, schedule {played}",
+            query.routine
         )?;
-        if let Choice::Asked(_) = turned {
-            asked.push(*query)?;
+        if matches!(turned, Choice::Asked(_)) {
+            asked.push(query)?;
         }
     }
-    Ok(())
+    Ok(asked)
 }
 
 // Prints the answers of a fresh turning picker as picks.
 fn record(rt: &HostRuntime, asked: &[Query]) -> anyhow::Result<()> {
     let picks = record_picks(rt.alloc(), &mut Turning::new(), asked)?;
-    for pick in picks.as_slice() {
+    for pick in &picks {
         println!(rt; "PK {} {}", pick.routine, pick.case)?;
     }
     Ok(())
 }
 
-fn run(rt: &HostRuntime) -> anyhow::Result<()> {
-    let mut picks = Vec::new(rt.alloc());
-    let mut queries = Vec::new(rt.alloc());
-    let mut asked = Vec::new(rt.alloc());
-    read(rt, &mut picks, &mut queries)?;
-    answer(rt, picks.as_slice(), queries.as_slice(), &mut asked)?;
-    record(rt, asked.as_slice())
-}
-
 fn main(rt: HostRuntime) -> anyhow::Result<()> {
-    run(&rt)
+    let (picks, queries) = read(&rt)?;
+    let asked = answer(&rt, &picks, &queries)?;
+    record(&rt, &asked)
 }
