@@ -1,6 +1,6 @@
 // What the lines read so far add up to, and which line fits after them.
 ghost use Rattle.std.specs.Prelude.{◌≡◌, ◌+◌, ◌<◌, ◌≤◌, false, nat_lt};
-ghost use Rattle.script.specs.Rules.{nothing, role_of, cells as cells_of, total as total_of, misplaced as is_misplaced, full as is_full, declaring, after as after_line};
+ghost use Rattle.script.specs.Rules.{nothing, cells as cells_of, total as total_of, misplaced as is_misplaced, full as is_full, declaring, after as after_line};
 
 use lines::{Kind, Role};
 use words::Name;
@@ -62,8 +62,8 @@ impl Tally {
     }
 
     // Whether a line of that role stands in the wrong part.
-    pub(crate) fn misplaced(self, role: Role<Name>) -> bool
-        ensures { result ≡ is_misplaced self (role_of role) }
+    pub(crate) fn misplaced(self, role: &Role<Name>) -> bool
+        ensures { result ≡ is_misplaced self role.now }
     {
         match role {
             Role::Declares(_, _, _) => self.bodies > 0,
@@ -75,27 +75,27 @@ impl Tally {
     }
 
     // Whether a line of that role passes a limit.
-    pub(crate) fn full(self, role: Role<Name>) -> bool
-        ensures { result ≡ is_full self (role_of role) }
+    pub(crate) fn full(self, role: &Role<Name>) -> bool
+        ensures { result ≡ is_full self role.now }
     {
         match role {
             Role::Declares(kind, _, capacity) => self.channels >= 32
-                || capacity > 64
-                || self.overfilled(kind, capacity),
+                || *capacity > 64
+                || self.overfilled(*kind, *capacity),
             Role::Opens(_) => self.bodies >= 32,
-            Role::Selects(cases) => self.lines >= 512 || cases > 8,
+            Role::Selects(cases) => self.lines >= 512 || *cases > 8,
             Role::Acts | Role::Case | Role::Default => self.lines >= 512,
         }
     }
 
     // Whether case lines are still due after a line of that role.
-    pub(crate) fn leaves_due(self, role: Role<Name>) -> bool
-        ensures { result ≡ nat_lt 0 (after_line self (role_of role)).due }
+    pub(crate) fn leaves_due(self, role: &Role<Name>) -> bool
+        ensures { result ≡ nat_lt 0 (after_line self role.now).due }
     {
         match role {
             Role::Declares(_, _, _) => self.due > 0,
             Role::Opens(_) | Role::Acts => false,
-            Role::Selects(cases) => cases > 0,
+            Role::Selects(cases) => *cases > 0,
             Role::Case | Role::Default => self.due > 1,
         }
     }
@@ -122,12 +122,12 @@ impl Tally {
     }
 
     // What a line of that role makes of it.
-    pub(crate) fn after(self, role: Role<Name>) -> Tally
-        requires { is_full self (role_of role) ≡ false }
-        ensures { result ≡ after_line self (role_of role) }
+    pub(crate) fn after(self, role: &Role<Name>) -> Tally
+        requires { is_full self role.now ≡ false }
+        ensures { result ≡ after_line self role.now }
     {
         match role {
-            Role::Declares(kind, _, capacity) => self.declared(kind, capacity),
+            Role::Declares(kind, _, capacity) => self.declared(*kind, *capacity),
             Role::Opens(_) => Tally {
                 bodies: self.bodies + 1,
                 due: 0,
@@ -135,7 +135,7 @@ impl Tally {
             },
             Role::Selects(cases) => Tally {
                 lines: self.lines + 1,
-                due: cases,
+                due: *cases,
                 defaulted: false,
                 ..self
             },
