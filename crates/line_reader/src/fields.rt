@@ -2,8 +2,9 @@
 ghost use Rattle.std.specs.Prelude.{◌≡◌, if◌then◌else◌, Ok, Err};
 ghost use Rattle.words.specs.Names.{is_name};
 ghost use Rattle.words.specs.Refusals.{broken};
+ghost use Rattle.words.specs.Spelled.{spelled};
 ghost use Rattle.words.specs.Words.{said, unlent};
-ghost use Rattle.lines.specs.Lines.{only, ended, as_value, as_handle, as_integer, as_natural, as_name, as_operand, two_values, handle_and_value, read_field};
+ghost use Rattle.lines.specs.Lines.{only, ended, as_value, as_handle, as_integer, as_natural, as_name, as_operand, two_values, handle_and_value, read_field, held_name, operand_of};
 
 use lines::Operand;
 use words::{Fault, Name, Word, next_word};
@@ -57,7 +58,7 @@ pub(crate) fn natural_field(rest: &[u8], line: usize) -> Result<(u32, &[u8]), Fa
 
 // The name that the bytes spell, held by value.
 fn held(bytes: &[u8], line: usize) -> Result<Name, Fault>
-    ensures { result ≡ (if is_name bytes.now then Ok bytes.now else Err (broken line)) }
+    ensures { held_name result ≡ (if is_name bytes.now then Ok bytes.now else Err (broken line)) }
 {
     match Name::new(bytes) {
         Some(name) => Ok(name),
@@ -66,7 +67,7 @@ fn held(bytes: &[u8], line: usize) -> Result<Name, Fault>
 }
 
 pub(crate) fn name_field(rest: &[u8], line: usize) -> Result<(Name, &[u8]), Fault>
-    ensures { unlent (λ x. x) result ≡ only as_name line rest.now }
+    ensures { unlent spelled result ≡ only as_name line rest.now }
 {
     match field(rest, line)? {
         (Word::Name(bytes), rest) => Ok((held(bytes, line)?, rest)),
@@ -75,7 +76,7 @@ pub(crate) fn name_field(rest: &[u8], line: usize) -> Result<(Name, &[u8]), Faul
 }
 
 pub(crate) fn operand_field(rest: &[u8], line: usize) -> Result<(Operand<Name>, &[u8]), Fault>
-    ensures { unlent (λ x. x) result ≡ only as_operand line rest.now }
+    ensures { unlent operand_of result ≡ only as_operand line rest.now }
 {
     match field(rest, line)? {
         (Word::Name(bytes), rest) => Ok((Operand::Named(held(bytes, line)?), rest)),

@@ -1,6 +1,6 @@
 // Reading a line: its mark chooses what fields it has.
 ghost use Rattle.std.specs.Prelude.{◌≡◌};
-ghost use Rattle.lines.specs.Lines.{read_set, read_add, read_sub, read_jump, read_jump_negative, read_hold, read_clear, read_send, read_receive, read_send_handle, read_receive_handle, read_close, read_select, read_case_send, read_case_receive, read_case_send_handle, read_case_receive_handle, read_case_default, read_start, read_print, read_value_channel, read_handle_channel, read_routine, read_line};
+ghost use Rattle.lines.specs.Lines.{read_set, read_add, read_sub, read_jump, read_jump_negative, read_hold, read_clear, read_send, read_receive, read_send_handle, read_receive_handle, read_close, read_select, read_case_send, read_case_receive, read_case_send_handle, read_case_receive_handle, read_case_default, read_start, read_print, read_value_channel, read_handle_channel, read_routine, read_line, answered};
 
 use crate::fields::{
     end, handle_and_value, handle_field, integer_field, name_field, natural_field, operand_field,
@@ -10,7 +10,7 @@ use lines::Line;
 use words::{Fault, Name};
 
 fn read_set(rest: &[u8], line: usize) -> Result<Line<Name>, Fault>
-    ensures { result ≡ read_set line rest.now }
+    ensures { answered result ≡ read_set line rest.now }
 {
     let (a, rest) = value_field(rest, line)?;
     let (b, rest) = integer_field(rest, line)?;
@@ -19,7 +19,7 @@ fn read_set(rest: &[u8], line: usize) -> Result<Line<Name>, Fault>
 }
 
 fn read_add(rest: &[u8], line: usize) -> Result<Line<Name>, Fault>
-    ensures { result ≡ read_add line rest.now }
+    ensures { answered result ≡ read_add line rest.now }
 {
     let ((a, b), rest) = two_values(rest, line)?;
     end(rest, line)?;
@@ -27,7 +27,7 @@ fn read_add(rest: &[u8], line: usize) -> Result<Line<Name>, Fault>
 }
 
 fn read_sub(rest: &[u8], line: usize) -> Result<Line<Name>, Fault>
-    ensures { result ≡ read_sub line rest.now }
+    ensures { answered result ≡ read_sub line rest.now }
 {
     let ((a, b), rest) = two_values(rest, line)?;
     end(rest, line)?;
@@ -35,7 +35,7 @@ fn read_sub(rest: &[u8], line: usize) -> Result<Line<Name>, Fault>
 }
 
 fn read_jump(rest: &[u8], line: usize) -> Result<Line<Name>, Fault>
-    ensures { result ≡ read_jump line rest.now }
+    ensures { answered result ≡ read_jump line rest.now }
 {
     let (a, rest) = natural_field(rest, line)?;
     end(rest, line)?;
@@ -43,7 +43,7 @@ fn read_jump(rest: &[u8], line: usize) -> Result<Line<Name>, Fault>
 }
 
 fn read_jump_negative(rest: &[u8], line: usize) -> Result<Line<Name>, Fault>
-    ensures { result ≡ read_jump_negative line rest.now }
+    ensures { answered result ≡ read_jump_negative line rest.now }
 {
     let (a, rest) = value_field(rest, line)?;
     let (b, rest) = natural_field(rest, line)?;
@@ -52,7 +52,7 @@ fn read_jump_negative(rest: &[u8], line: usize) -> Result<Line<Name>, Fault>
 }
 
 fn read_hold(rest: &[u8], line: usize) -> Result<Line<Name>, Fault>
-    ensures { result ≡ read_hold line rest.now }
+    ensures { answered result ≡ read_hold line rest.now }
 {
     let (a, rest) = handle_field(rest, line)?;
     let (b, rest) = name_field(rest, line)?;
@@ -61,7 +61,7 @@ fn read_hold(rest: &[u8], line: usize) -> Result<Line<Name>, Fault>
 }
 
 fn read_clear(rest: &[u8], line: usize) -> Result<Line<Name>, Fault>
-    ensures { result ≡ read_clear line rest.now }
+    ensures { answered result ≡ read_clear line rest.now }
 {
     let (a, rest) = handle_field(rest, line)?;
     end(rest, line)?;
@@ -69,7 +69,7 @@ fn read_clear(rest: &[u8], line: usize) -> Result<Line<Name>, Fault>
 }
 
 fn read_send(rest: &[u8], line: usize) -> Result<Line<Name>, Fault>
-    ensures { result ≡ read_send line rest.now }
+    ensures { answered result ≡ read_send line rest.now }
 {
     let (a, rest) = operand_field(rest, line)?;
     let (b, rest) = value_field(rest, line)?;
@@ -78,7 +78,7 @@ fn read_send(rest: &[u8], line: usize) -> Result<Line<Name>, Fault>
 }
 
 fn read_receive(rest: &[u8], line: usize) -> Result<Line<Name>, Fault>
-    ensures { result ≡ read_receive line rest.now }
+    ensures { answered result ≡ read_receive line rest.now }
 {
     let (a, rest) = operand_field(rest, line)?;
     let ((b, c), rest) = two_values(rest, line)?;
@@ -87,7 +87,7 @@ fn read_receive(rest: &[u8], line: usize) -> Result<Line<Name>, Fault>
 }
 
 fn read_send_handle(rest: &[u8], line: usize) -> Result<Line<Name>, Fault>
-    ensures { result ≡ read_send_handle line rest.now }
+    ensures { answered result ≡ read_send_handle line rest.now }
 {
     let (a, rest) = name_field(rest, line)?;
     let (b, rest) = handle_field(rest, line)?;
@@ -96,7 +96,7 @@ fn read_send_handle(rest: &[u8], line: usize) -> Result<Line<Name>, Fault>
 }
 
 fn read_receive_handle(rest: &[u8], line: usize) -> Result<Line<Name>, Fault>
-    ensures { result ≡ read_receive_handle line rest.now }
+    ensures { answered result ≡ read_receive_handle line rest.now }
 {
     let (a, rest) = name_field(rest, line)?;
     let ((b, c), rest) = handle_and_value(rest, line)?;
@@ -105,7 +105,7 @@ fn read_receive_handle(rest: &[u8], line: usize) -> Result<Line<Name>, Fault>
 }
 
 fn read_close(rest: &[u8], line: usize) -> Result<Line<Name>, Fault>
-    ensures { result ≡ read_close line rest.now }
+    ensures { answered result ≡ read_close line rest.now }
 {
     let (a, rest) = operand_field(rest, line)?;
     end(rest, line)?;
@@ -113,7 +113,7 @@ fn read_close(rest: &[u8], line: usize) -> Result<Line<Name>, Fault>
 }
 
 fn read_select(rest: &[u8], line: usize) -> Result<Line<Name>, Fault>
-    ensures { result ≡ read_select line rest.now }
+    ensures { answered result ≡ read_select line rest.now }
 {
     let (a, rest) = natural_field(rest, line)?;
     end(rest, line)?;
@@ -121,7 +121,7 @@ fn read_select(rest: &[u8], line: usize) -> Result<Line<Name>, Fault>
 }
 
 fn read_case_send(rest: &[u8], line: usize) -> Result<Line<Name>, Fault>
-    ensures { result ≡ read_case_send line rest.now }
+    ensures { answered result ≡ read_case_send line rest.now }
 {
     let (a, rest) = operand_field(rest, line)?;
     let (b, rest) = value_field(rest, line)?;
@@ -131,7 +131,7 @@ fn read_case_send(rest: &[u8], line: usize) -> Result<Line<Name>, Fault>
 }
 
 fn read_case_receive(rest: &[u8], line: usize) -> Result<Line<Name>, Fault>
-    ensures { result ≡ read_case_receive line rest.now }
+    ensures { answered result ≡ read_case_receive line rest.now }
 {
     let (a, rest) = operand_field(rest, line)?;
     let ((b, c), rest) = two_values(rest, line)?;
@@ -141,7 +141,7 @@ fn read_case_receive(rest: &[u8], line: usize) -> Result<Line<Name>, Fault>
 }
 
 fn read_case_send_handle(rest: &[u8], line: usize) -> Result<Line<Name>, Fault>
-    ensures { result ≡ read_case_send_handle line rest.now }
+    ensures { answered result ≡ read_case_send_handle line rest.now }
 {
     let (a, rest) = name_field(rest, line)?;
     let (b, rest) = handle_field(rest, line)?;
@@ -151,7 +151,7 @@ fn read_case_send_handle(rest: &[u8], line: usize) -> Result<Line<Name>, Fault>
 }
 
 fn read_case_receive_handle(rest: &[u8], line: usize) -> Result<Line<Name>, Fault>
-    ensures { result ≡ read_case_receive_handle line rest.now }
+    ensures { answered result ≡ read_case_receive_handle line rest.now }
 {
     let (a, rest) = name_field(rest, line)?;
     let ((b, c), rest) = handle_and_value(rest, line)?;
@@ -161,7 +161,7 @@ fn read_case_receive_handle(rest: &[u8], line: usize) -> Result<Line<Name>, Faul
 }
 
 fn read_case_default(rest: &[u8], line: usize) -> Result<Line<Name>, Fault>
-    ensures { result ≡ read_case_default line rest.now }
+    ensures { answered result ≡ read_case_default line rest.now }
 {
     let (a, rest) = natural_field(rest, line)?;
     end(rest, line)?;
@@ -169,7 +169,7 @@ fn read_case_default(rest: &[u8], line: usize) -> Result<Line<Name>, Fault>
 }
 
 fn read_start(rest: &[u8], line: usize) -> Result<Line<Name>, Fault>
-    ensures { result ≡ read_start line rest.now }
+    ensures { answered result ≡ read_start line rest.now }
 {
     let (a, rest) = name_field(rest, line)?;
     end(rest, line)?;
@@ -177,7 +177,7 @@ fn read_start(rest: &[u8], line: usize) -> Result<Line<Name>, Fault>
 }
 
 fn read_print(rest: &[u8], line: usize) -> Result<Line<Name>, Fault>
-    ensures { result ≡ read_print line rest.now }
+    ensures { answered result ≡ read_print line rest.now }
 {
     let (a, rest) = value_field(rest, line)?;
     end(rest, line)?;
@@ -185,7 +185,7 @@ fn read_print(rest: &[u8], line: usize) -> Result<Line<Name>, Fault>
 }
 
 fn read_value_channel(rest: &[u8], line: usize) -> Result<Line<Name>, Fault>
-    ensures { result ≡ read_value_channel line rest.now }
+    ensures { answered result ≡ read_value_channel line rest.now }
 {
     let (a, rest) = name_field(rest, line)?;
     let (b, rest) = natural_field(rest, line)?;
@@ -194,7 +194,7 @@ fn read_value_channel(rest: &[u8], line: usize) -> Result<Line<Name>, Fault>
 }
 
 fn read_handle_channel(rest: &[u8], line: usize) -> Result<Line<Name>, Fault>
-    ensures { result ≡ read_handle_channel line rest.now }
+    ensures { answered result ≡ read_handle_channel line rest.now }
 {
     let (a, rest) = name_field(rest, line)?;
     let (b, rest) = natural_field(rest, line)?;
@@ -203,7 +203,7 @@ fn read_handle_channel(rest: &[u8], line: usize) -> Result<Line<Name>, Fault>
 }
 
 fn read_routine(rest: &[u8], line: usize) -> Result<Line<Name>, Fault>
-    ensures { result ≡ read_routine line rest.now }
+    ensures { answered result ≡ read_routine line rest.now }
 {
     let (a, rest) = name_field(rest, line)?;
     end(rest, line)?;
@@ -212,7 +212,7 @@ fn read_routine(rest: &[u8], line: usize) -> Result<Line<Name>, Fault>
 
 // A line, without its end: a mark of two bytes and its fields.
 pub fn read_line(bytes: &[u8], line: usize) -> Result<Line<Name>, Fault>
-    ensures { result ≡ read_line line bytes.now }
+    ensures { answered result ≡ read_line line bytes.now }
 {
     match bytes {
         [b'S', b'V', rest @ ..] => read_set(rest, line),

@@ -37,7 +37,7 @@ impl Standing {
         let channels = Vec::with_capacity(heap, 32)?;
         let bodies = Vec::with_capacity(heap, 32)?;
         Ok(Standing {
-            tally: Tally::none(),
+            tally: Tally::default(),
             channels,
             bodies,
         })
@@ -49,7 +49,7 @@ impl Standing {
     {
         self.channels.clear();
         self.bodies.clear();
-        self.tally = Tally::none();
+        self.tally = Tally::default();
     }
 
     // Whether the line declares a name again.

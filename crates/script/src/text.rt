@@ -11,17 +11,17 @@ use words::{Fault, Name, cut};
 
 // A line with its end, if it has one: its number, and whether it is the last.
 #[derive(Clone, Copy)]
-pub struct Piece<'a> {
-    pub(crate) bytes: &'a [u8],
-    pub(crate) number: usize,
-    pub(crate) last: bool,
+struct Piece<'a> {
+    bytes: &'a [u8],
+    number: usize,
+    last: bool,
 }
 
 // The lines of the rest of a text, of which the first has that number.
 #[derive(Drop)]
-pub struct Pieces<'a> {
-    pub(crate) rest: &'a [u8],
-    pub(crate) number: usize,
+struct Pieces<'a> {
+    rest: &'a [u8],
+    number: usize,
     ghost numbered: { number + length rest.now ≤ 9223372036854775808 },
 }
 
