@@ -39,7 +39,12 @@ impl Draft {
     }
 
     // Takes in line `number`, if nothing speaks against it.
-    pub(crate) fn admit(&mut self, line: &Line<Name>, number: usize, last: bool) -> Result<(), Fault>
+    pub(crate) fn admit(
+        &mut self,
+        line: &Line<Name>,
+        number: usize,
+        last: bool,
+    ) -> Result<(), Fault>
         ensures { Admits self.old line.now number last self.new result }
     {
         let role = line.role();

@@ -19,7 +19,6 @@ pub struct Standing {
 
 impl Model for Standing {
     ghost use Rattle.std.specs.Prelude.{◌≡◌, ◌≤◌, length, vec_capacity};
-
     ghost use Rattle.script.specs.Rules.{Standing};
 
     ghost Value = { Standing };
