@@ -14,11 +14,9 @@ use Rattle.lines.specs.Shows.{show_line}
 use Rattle.text_laws.proofs.Numbers.{either}
 use Rattle.text_laws.proofs.WordLaws.{err_ok, ok_same}
 use Rattle.text_laws.proofs.LineLaws.{lists_back}
-use Rattle.script.specs.declared.draft.Draft.{Draft}
-use Rattle.script.specs.declared.tally.Tally.{Tally}
 use Rattle.script.specs.Rules.{Standing, nothing, fresh, standing, judge}
 use Rattle.script.specs.Texts.{onto, pieces, none_left, read_piece, admitted, judged, read_on, read_script, show}
-use Rattle.script.specs.Drafts.{Blank, behind, reading}
+use Rattle.script.specs.Drafts.{blank, behind, reading}
 use Rattle.script.proofs.Pieces.{piece_ended}
 
 -- ---- pieces put together again
@@ -78,9 +76,5 @@ behind_none : (o : Result (List (Line (List ℕ))) Fault) → behind [] o ≡ o
 behind_none (Ok ls) = refl
 behind_none (Err e) = refl
 
-pub from_blank : (d : Draft) (t : List ℕ) → Blank d → length t ≤ 32768 → reading d 1 t ≡ read_script t
-from_blank d t b h =
-    ap (λ ls. behind ls (read_on 1 d.standing (pieces t))) b.no_lines
-    ∙ ap (λ s. behind [] (read_on 1 s (pieces t))) b.nothing_yet
-    ∙ behind_none (read_on 1 fresh (pieces t))
-    ∙ sym (cond-false (ltb 32768 (length t)) _ _ (le-ltb 32768 (length t) h))
+pub from_blank : (t : List ℕ) → length t ≤ 32768 → reading blank 1 t ≡ read_script t
+from_blank t h = behind_none (read_on 1 fresh (pieces t)) ∙ sym (cond-false (ltb 32768 (length t)) _ _ (le-ltb 32768 (length t) h))
