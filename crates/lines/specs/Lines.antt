@@ -1,9 +1,7 @@
 -- What a line of the text is: a mark and its fields.
 use Rattle.std.specs.Prelude.{ℕ, cond, ◌&&◌, List, [], ◌∷◌, drop, ℤ, pos, negsuc, Some, None, Ok, Err, Option, Result, ◌==◌, slice_index}
 use Rattle.words.specs.declared.refusal.Fault.{Fault}
-use Rattle.words.specs.declared.name.Name.{Name}
 use Rattle.words.specs.Refusals.{broken}
-use Rattle.words.specs.Spelled.{spelled}
 use Rattle.words.specs.Words.{Said, name, number, value, handle, read_word}
 use Rattle.lines.specs.declared.line.Operand.{Operand}
 use Rattle.lines.specs.declared.line.Operand.TheVariants.{Named, Held}
@@ -199,47 +197,3 @@ chosen (f ∷ fs) n a b rest = cond (a == f.first && b == f.second) (f.reads n r
 -- line n of the text, without its end
 abbrev pub read_line : ℕ → List ℕ → Result (Line (List ℕ)) Fault
 read_line n s = chosen formats n (slice_index s 0) (slice_index s 1) (drop 2 s)
-
--- ---- what the code answers, with each name by its bytes
-abbrev pub map_operand : {A B : Type 0} → (A → B) → Operand A → Operand B
-map_operand f (Named x) = Named (f x)
-map_operand f (Held k) = Held k
-
-abbrev pub map_line : {A B : Type 0} → (A → B) → Line A → Line B
-map_line f (Set a b) = Set a b
-map_line f (Add a b) = Add a b
-map_line f (Sub a b) = Sub a b
-map_line f (Jump a) = Jump a
-map_line f (JumpNegative a b) = JumpNegative a b
-map_line f (Hold a b) = Hold a (f b)
-map_line f (Clear a) = Clear a
-map_line f (Send a b) = Send (map_operand f a) b
-map_line f (Receive a b c) = Receive (map_operand f a) b c
-map_line f (SendHandle a b) = SendHandle (f a) b
-map_line f (ReceiveHandle a b c) = ReceiveHandle (f a) b c
-map_line f (Close a) = Close (map_operand f a)
-map_line f (Select a) = Select a
-map_line f (CaseSend a b c) = CaseSend (map_operand f a) b c
-map_line f (CaseReceive a b c d) = CaseReceive (map_operand f a) b c d
-map_line f (CaseSendHandle a b c) = CaseSendHandle (f a) b c
-map_line f (CaseReceiveHandle a b c d) = CaseReceiveHandle (f a) b c d
-map_line f (CaseDefault a) = CaseDefault a
-map_line f (Start a) = Start (f a)
-map_line f (Print a) = Print a
-map_line f (ValueChannel a b) = ValueChannel (f a) b
-map_line f (HandleChannel a b) = HandleChannel (f a) b
-map_line f (Routine a) = Routine (f a)
-
-abbrev pub operand_of : Operand Name → Operand (List ℕ)
-operand_of o = map_operand spelled o
-
-abbrev pub line_of : Line Name → Line (List ℕ)
-line_of l = map_line spelled l
-
-abbrev pub held_name : Result Name Fault → Result (List ℕ) Fault
-held_name (Ok x) = Ok (spelled x)
-held_name (Err e) = Err e
-
-abbrev pub answered : Result (Line Name) Fault → Result (Line (List ℕ)) Fault
-answered (Ok l) = Ok (line_of l)
-answered (Err e) = Err e

@@ -1,7 +1,6 @@
 // Listing a line.
 ghost use Rattle.std.specs.Prelude.{◌≡◌};
 ghost use Rattle.words.specs.Shows.{field_said, Put};
-ghost use Rattle.lines.specs.Lines.{line_of, operand_of};
 ghost use Rattle.lines.specs.Shows.{show_line, from_operand};
 
 use crate::line::{Line, Operand};
@@ -10,7 +9,7 @@ use words::{Field, Name, Refusal, put_fields as put};
 
 // What is listed of a channel operand.
 fn operand(channel: Operand<Name>) -> Field
-    ensures { field_said result ≡ from_operand (operand_of channel) }
+    ensures { field_said result ≡ from_operand channel }
 {
     match channel {
         Operand::Named(name) => Named(name),
@@ -20,7 +19,7 @@ fn operand(channel: Operand<Name>) -> Field
 
 // Writes a line, without its end, at `at`, and answers where it ends; writes nothing where it does not fit.
 pub fn put_line(out: &mut [u8], at: usize, line: Line<Name>) -> Result<usize, Refusal>
-    ensures { Put out.old at (show_line (line_of line)) out.new result }
+    ensures { Put out.old at (show_line line) out.new result }
 {
     match line {
         Line::Set(a, b) => put(out, at, b"SV", &[Value(a), Integer(b)]),

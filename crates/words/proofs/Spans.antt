@@ -1,12 +1,13 @@
 -- Where the first separator stands.
-use Rattle.std.proofs.Common.{◌≡◌, ℕ, zero, suc, ◌+◌, ◌<◌, ◌≤◌, true, cond, eqb, List, [], ◌∷◌, ◌++◌, length, get_or, take, drop, replicate, sym, refl, ap, ◌∙◌, arith}
+use Rattle.std.proofs.Common.{◌≡◌, ℕ, zero, suc, ◌+◌, ◌-◌, ◌<◌, ◌≤◌, true, cond, eqb, List, [], ◌∷◌, ◌++◌, length, get_or, take, drop, replicate, sym, refl, ap, ◌∙◌, arith}
 use Rattle.std.specs.Char.{is_ascii_lowercase}
 use Rattle.std.specs.List.{AllByRecursion}
-use Rattle.std.proofs.lemmas.List.{at_drop_more, at_drop_all, take_at}
+use Rattle.std.proofs.lemmas.List.{at_drop_more, at_drop_all, take_at, drop-replicate}
 use Rattle.std.proofs.lemmas.Bool.{and_parts, cond-true, cond-false, eq-eqb, ne_eqb}
 use Rattle.std.proofs.lemmas.Bool.Decides.{nat_tests}
 use Rattle.words.specs.Names.{lowers}
 use Rattle.words.specs.Words.{span}
+use Rattle.words.specs.Spelled.{spelled, padded, Padded}
 
 module _ (p : ℕ) where
   pub span_here : (xs : List ℕ) (i : ℕ) → i < length xs → get_or xs i 0 ≡ p → i + span p (drop i xs) ≡ span p xs → span p xs ≡ i
@@ -59,3 +60,11 @@ pub stops_zeros : (n k : ℕ) → Stops 0 (drop k (replicate n 0))
 stops_zeros n zero = zero_at n 0
 stops_zeros zero (suc k) = refl
 stops_zeros (suc n) (suc k) = stops_zeros n k
+
+-- a name's letters in eight bytes, of which the front was written
+module _ (s : List ℕ) (low : lowers s ≡ true) where
+  pub spelled_front : (n : ℕ) → spelled (s ++ drop n (replicate 8 0)) ≡ s
+  spelled_front n = front 0 s _ (free_lowers 0 s (omega arith) low) (stops_zeros 8 n)
+
+  pub padded_front : (n : ℕ) → n ≡ length s → Padded (s ++ drop n (replicate 8 0))
+  padded_front n e = ap padded (spelled_front n) ∙ ap (λ k. s ++ replicate (8 - k) 0) (sym e) ∙ ap (λ l. s ++ l) (sym (drop-replicate n 8 0))

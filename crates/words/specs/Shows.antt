@@ -5,7 +5,6 @@ use Rattle.words.specs.declared.refusal.Refusal.{Refusal}
 use Rattle.words.specs.declared.refusal.Refusal.TheVariants.{Small}
 use Rattle.words.specs.declared.listing.Field.{Field}
 use Rattle.words.specs.declared.listing.Field.TheVariants.{Name, Integer, Natural, Value, Handle}
-use Rattle.words.specs.Spelled.{spelled}
 use Rattle.words.specs.Words.{Said, name, number, value, handle}
 
 -- a name as it is, a number in decimal, a register by its letter and number
@@ -21,7 +20,7 @@ show_fields [] = []
 show_fields (w ∷ ws) = 32 ∷ (show_word w ++ show_fields ws)
 
 abbrev pub field_said : Field → Said
-field_said (Name n) = name (spelled n)
+field_said (Name n) = name n
 field_said (Integer z) = number z
 field_said (Natural n) = number (pos n)
 field_said (Value n) = value n

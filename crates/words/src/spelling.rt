@@ -1,8 +1,6 @@
 // Names and their bytes.
 ghost use Rattle.std.specs.Prelude.{◌≡◌, if◌then◌else◌, Some, None};
-ghost use Rattle.std.specs.Option.{option_map};
 ghost use Rattle.words.specs.Names.{is_name};
-ghost use Rattle.words.specs.Spelled.{spelled};
 
 use crate::name::Name;
 use crate::reading::cut;
@@ -25,7 +23,7 @@ pub(crate) fn is_name(bytes: &[u8]) -> bool
 impl Name {
     // The name that the bytes spell, if they spell one.
     pub fn new(bytes: &[u8]) -> Option<Name>
-        ensures { option_map spelled result ≡ (if is_name bytes.now then Some bytes.now else None) }
+        ensures { result ≡ (if is_name bytes.now then Some bytes.now else None) }
     {
         if !is_name(bytes) {
             return None;
@@ -38,7 +36,7 @@ impl Name {
 
     // The bytes that spell it.
     pub fn as_bytes(&self) -> &[u8]
-        ensures { result.now ≡ spelled self.now }
+        ensures { result.now ≡ self.now }
     {
         let (letters, _) = cut(&self.letters, 0);
         letters

@@ -5,10 +5,10 @@ use Rattle.words.proofs.listing.fit.Goals as goal
 
 pub returns-then-left-len : goal.returns-then-left-len
 returns-then-left-len c =
-    sym (lt-leb _ _ (omega (arith, shown_room c.args.fields.now c.loop-field.field-index c.loop-field-test.true)))
+    sym (lt-leb _ _ (omega (arith, shown_room c.args.fields.now c.loop-field.field-index c.loop-field-test.true c.field-item.result c.field-item.is)))
 
 pub loop-field-preserved : goal.loop-field-preserved
-loop-field-preserved c = omega (arith, shown_len c.args.fields.now c.loop-field.field-index c.loop-field-test.true)
+loop-field-preserved c = omega (arith, shown_len c.args.fields.now c.loop-field.field-index c.loop-field-test.true c.field-item.result c.field-item.is)
 
 pub returns : goal.returns
 returns c =
