@@ -9,17 +9,8 @@ use words::{Fault, Refusal};
 
 // Standard input, as far as one byte past the longest script.
 fn input(rt: &HostRuntime) -> io::Result<Vec<u8>> {
-    let mut text = vec![in rt.alloc(); 0u8; 32769]?;
-    let mut from = rt.stdin();
-    let mut len = 0;
-    while len < text.len() {
-        let count = from.read(&mut text[len..])?;
-        if count == 0 {
-            break;
-        }
-        len += count;
-    }
-    text.truncate(len);
+    let mut text = Vec::new(rt.alloc());
+    rt.stdin().take(32769).read_to_end(&mut text)?;
     Ok(text)
 }
 
