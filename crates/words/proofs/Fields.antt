@@ -1,42 +1,28 @@
 -- One field more of a line.
-use Rattle.std.proofs.Common.{◌≡◌, ℕ, ◌+◌, ◌<◌, ◌≤◌, List, [], ◌∷◌, ◌++◌, map, length, get_or, take, drop, sym, refl, ap, ◌∙◌, arith}
-use Rattle.std.proofs.lemmas.List.{append_assoc, append-nil, length-append, map-append, map_push, take_more, take-append-drop, take_all}
-use Rattle.words.specs.declared.listing.Field.{Field}
-use Rattle.words.specs.Words.{Said}
-use Rattle.words.specs.Shows.{show_word, show_fields, field_said}
-
-pub fields_append : (vs ws : List Said) → show_fields (vs ++ ws) ≡ show_fields vs ++ show_fields ws
-fields_append [] ws = refl
-fields_append (v ∷ vs) ws = ap (λ l. 32 ∷ (show_word v ++ l)) (fields_append vs ws) ∙ ap (λ l. 32 ∷ l) (sym (append_assoc (show_word v) (show_fields vs) (show_fields ws)))
+use Rattle.std.proofs.Common.{◌≡◌, ℕ, ◌+◌, ◌<◌, ◌≤◌, List, [], ◌++◌, map, length, get_or, take, sym, ap, ◌∙◌, arith}
+use Rattle.std.proofs.lemmas.List.{map_more, flat_map_more, take_all}
+use Rattle.std.proofs.lemmas.List.Folds.{flat_map-map, length-flat_map-take}
+use Rattle.words.specs.declared.field.Field.{Field}
+use Rattle.words.specs.Shows.{show_field, show_fields, field_said}
 
 -- the fields of the first i words
 abbrev pub shown : List Field → ℕ → List ℕ
-shown ws i = show_fields (map field_said (take i ws))
+shown fs i = show_fields (map field_said (take i fs))
+
+pub shown_all : (fs : List Field) (i : ℕ) → length fs ≤ i → shown fs i ≡ show_fields (map field_said fs)
+shown_all fs i h = ap (λ l. show_fields (map field_said l)) (take_all i fs h)
 
 -- the field x at place i
-module _ (ws : List Field) (i : ℕ) (h : i < length ws) (x : Field) (e : x ≡ get_or ws i x) where
-  pub shown_more : shown ws (i + 1) ≡ shown ws i ++ (32 ∷ show_word (field_said x))
+module _ (fs : List Field) (i : ℕ) (h : i < length fs) (x : Field) (e : x ≡ get_or fs i x) where
+  pub shown_more : shown fs (i + 1) ≡ shown fs i ++ show_field (field_said x)
   shown_more =
-      ap (λ l. show_fields (map field_said l)) (take_more ws i x h ∙ ap (λ y. take i ws ++ (y ∷ [])) (sym e))
-      ∙ ap show_fields (map_push field_said (take i ws) x)
-      ∙ fields_append (map field_said (take i ws)) (field_said x ∷ [])
-      ∙ ap (λ l. shown ws i ++ (32 ∷ l)) (append-nil (show_word (field_said x)))
+      ap show_fields (map_more field_said fs i x h) ∙ sym (flat_map_more show_field [] (map field_said (take i fs)) (field_said (get_or fs i x)))
+      ∙ ap (λ y. shown fs i ++ show_field (field_said y)) (sym e)
 
-  -- it takes a space and its own length
-  pub shown_len : length (shown ws (i + 1)) ≡ length (shown ws i) + 1 + length (show_word (field_said x))
-  shown_len = omega (arith, ap length shown_more, length-append (shown ws i) (32 ∷ show_word (field_said x)))
-
-pub shown_le : (ws : List Field) (i : ℕ) → length (shown ws i) ≤ length (show_fields (map field_said ws))
-shown_le ws i =
-    let e : show_fields (map field_said ws) ≡ shown ws i ++ show_fields (map field_said (drop i ws)) =
-    ap (λ l. show_fields (map field_said l)) (sym (take-append-drop i ws))
-    ∙ ap show_fields (map-append field_said (take i ws) (drop i ws))
-    ∙ fields_append (map field_said (take i ws)) (map field_said (drop i ws)) in
-    omega (arith, ap length e, length-append (shown ws i) (show_fields (map field_said (drop i ws))))
-
--- there is room for it
-pub shown_room : (ws : List Field) (i : ℕ) → i < length ws → (x : Field) → x ≡ get_or ws i x → length (shown ws i) + 1 + length (show_word (field_said x)) ≤ length (show_fields (map field_said ws))
-shown_room ws i h x e = omega (arith, shown_le ws (i + 1), shown_len ws i h x e)
-
-pub shown_all : (ws : List Field) (i : ℕ) → length ws ≤ i → shown ws i ≡ show_fields (map field_said ws)
-shown_all ws i h = ap (λ l. show_fields (map field_said l)) (take_all i ws h)
+  -- there is room for it
+  pub shown_room : length (shown fs i) + length (show_field (field_said x)) ≤ length (show_fields (map field_said fs))
+  shown_room =
+      let all = ap length (flat_map-map show_field field_said fs) in
+      let before = ap length (flat_map-map show_field field_said (take i fs)) in
+      let here = ap (λ y. length (show_field (field_said y))) e in
+      omega (arith, length-flat_map-take (λ f. show_field (field_said f)) fs i x h)

@@ -1,4 +1,4 @@
 pub mod Spans
-pub mod Scans
-pub mod Writes
 pub mod Fields
+pub mod Pages
+pub mod Numerals

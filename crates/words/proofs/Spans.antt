@@ -1,8 +1,9 @@
 -- Where the first separator stands.
-use Rattle.std.proofs.Common.{◌≡◌, ℕ, zero, suc, ◌+◌, ◌-◌, ◌<◌, ◌≤◌, true, cond, eqb, List, [], ◌∷◌, ◌++◌, length, get_or, take, drop, replicate, sym, refl, ap, ◌∙◌, arith}
+use Rattle.std.proofs.Common.{◌≡◌, ℕ, zero, suc, ◌<◌, true, one-add, cond, eqb, ◌==◌, List, [], ◌∷◌, ◌++◌, length, get_or, take, drop, replicate, sym, refl, ap, ◌∙◌, arith}
 use Rattle.std.specs.Char.{is_ascii_lowercase}
-use Rattle.std.specs.List.{AllByRecursion}
-use Rattle.std.proofs.lemmas.List.{at_drop_more, at_drop_all, take_at, drop-replicate}
+use Rattle.std.specs.List.{AllByRecursion, position_or_len}
+use Rattle.std.proofs.lemmas.List.Recursion.{is_position_or_len}
+use Rattle.std.proofs.lemmas.List.{take_at, drop-replicate}
 use Rattle.std.proofs.lemmas.Bool.{and_parts, cond-true, cond-false, eq-eqb, ne_eqb}
 use Rattle.std.proofs.lemmas.Bool.Decides.{nat_tests}
 use Rattle.words.specs.Names.{lowers}
@@ -10,20 +11,8 @@ use Rattle.words.specs.Words.{span}
 use Rattle.words.specs.Spelled.{spelled, padded, Padded}
 
 module _ (p : ℕ) where
-  pub span_here : (xs : List ℕ) (i : ℕ) → i < length xs → get_or xs i 0 ≡ p → i + span p (drop i xs) ≡ span p xs → span p xs ≡ i
-  span_here xs i h e inv =
-      let s : span p (drop i xs) ≡ cond (eqb (get_or xs i 0) p) 0 (suc (span p (drop (i + 1) xs))) = at_drop_more (span p) xs i 0 h in
-      grind (arith, nat_tests)
-
-  pub span_more : (xs : List ℕ) (i : ℕ) → i < length xs → (get_or xs i 0 ≡ p → ⊥) → i + span p (drop i xs) ≡ span p xs → i + 1 + span p (drop (i + 1) xs) ≡ span p xs
-  span_more xs i h n inv =
-      let s : span p (drop i xs) ≡ cond (eqb (get_or xs i 0) p) 0 (suc (span p (drop (i + 1) xs))) = at_drop_more (span p) xs i 0 h in
-      grind (arith, nat_tests)
-
-  pub span_all : (xs : List ℕ) (i : ℕ) → length xs ≤ i → i + span p (drop i xs) ≡ span p xs → span p xs ≡ i
-  span_all xs i h inv =
-      let s : span p (drop i xs) ≡ 0 = at_drop_all (span p) xs i h in
-      omega arith
+  pub span_position : (xs : List ℕ) → span p xs ≡ position_or_len (λ c. c == p) xs
+  span_position = is_position_or_len (span p) (λ c. c == p) refl (λ x xs. ap (cond (x == p) 0) (sym (one-add (span p xs))))
 
   -- the separator does not stand in it
   abbrev pub Free : List ℕ → Type 0
@@ -61,10 +50,10 @@ stops_zeros n zero = zero_at n 0
 stops_zeros zero (suc k) = refl
 stops_zeros (suc n) (suc k) = stops_zeros n k
 
--- a name's letters in eight bytes, of which the front was written
+-- a name's letters at the front of eight bytes
 module _ (s : List ℕ) (low : lowers s ≡ true) where
-  pub spelled_front : (n : ℕ) → spelled (s ++ drop n (replicate 8 0)) ≡ s
-  spelled_front n = front 0 s _ (free_lowers 0 s (omega arith) low) (stops_zeros 8 n)
+  pub spelled_front : spelled (s ++ drop (length s) (replicate 8 0)) ≡ s
+  spelled_front = front 0 s _ (free_lowers 0 s (omega arith) low) (stops_zeros 8 (length s))
 
-  pub padded_front : (n : ℕ) → n ≡ length s → Padded (s ++ drop n (replicate 8 0))
-  padded_front n e = ap padded (spelled_front n) ∙ ap (λ k. s ++ replicate (8 - k) 0) (sym e) ∙ ap (λ l. s ++ l) (sym (drop-replicate n 8 0))
+  pub padded_front : Padded (s ++ drop (length s) (replicate 8 0))
+  padded_front = ap padded spelled_front ∙ ap (λ l. s ++ l) (sym (drop-replicate (length s) 8 0))

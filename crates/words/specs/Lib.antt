@@ -3,3 +3,4 @@ pub mod Names
 pub mod Spelled
 pub mod Words
 pub mod Shows
+pub mod Pages

@@ -1,10 +1,10 @@
 -- What a name is.
-use Rattle.std.specs.Prelude.{ℕ, Bool, true, ◌&&◌, List, [], ◌∷◌, length, nat_le}
+use Rattle.std.specs.Prelude.{ℕ, Bool, ◌&&◌, List, length, nat_le}
+use Rattle.std.specs.List.{list_all}
 use Rattle.std.specs.Char.{is_ascii_lowercase}
 
 abbrev pub lowers : List ℕ → Bool
-lowers [] = true
-lowers (c ∷ cs) = is_ascii_lowercase c && lowers cs
+lowers t = list_all is_ascii_lowercase t
 
 -- 1 to 8 lowercase letters
 abbrev pub is_name : List ℕ → Bool

@@ -1,5 +1,5 @@
 -- The number of each refusal.
-use Rattle.std.specs.Prelude.{ℕ}
+use Rattle.std.specs.Prelude.{ℕ, List, ◌∷◌, ◌++◌, codes, decimal}
 use Rattle.words.specs.declared.refusal.Refusal.{Refusal}
 use Rattle.words.specs.declared.refusal.Refusal.TheVariants.{Overlong, Broken, Misplaced, Full, Twice, Unknown, Wild, Small, Over, Absent}
 use Rattle.words.specs.declared.refusal.Fault.{Fault}
@@ -22,3 +22,7 @@ fault why n = record { refusal = why; line = n }
 
 abbrev pub broken : ℕ → Fault
 broken n = fault Broken n
+
+-- what is printed of it
+abbrev pub show_fault : Fault → List ℕ
+show_fault f = codes "NO " ++ (decimal (number_of f.refusal) ++ (32 ∷ decimal f.line))

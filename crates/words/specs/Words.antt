@@ -50,6 +50,10 @@ posited (Some m) = Some (pos m)
 abbrev pub number_of : List ℕ → Option ℤ
 number_of t = cond (slice_index t 0 == 45) (negated (numeral_within 2147483648 (drop 1 t))) (posited (numeral_within 2147483647 t))
 
+-- a plus, a zero before more, or -0 stands first
+abbrev pub loose : List ℕ → Bool
+loose t = slice_index t 0 == 43 || (slice_index t 0 == 48 && nat_lt 1 (length t)) || (slice_index t 0 == 45 && slice_index t 1 == 48)
+
 -- ---- words
 -- `letter` and one digit below `count`
 abbrev pub register : ℕ → ℕ → List ℕ → Bool

@@ -1,9 +1,10 @@
 // Reading a word from the front of a line.
-ghost use Rattle.std.specs.Prelude.{◌≡◌, take, drop};
-ghost use Rattle.words.specs.Words.{span, digits_within, numeral_within, negated, posited, number_of, word_of, said_word, said, read_word, unlent};
+ghost use Rattle.std.specs.Prelude.{◌≡◌, ◌==◌, take, drop, position};
+ghost use Rattle.words.specs.Words.{span, loose, number_of, word_of, said_word, said, read_word, unlent};
 
 use crate::refusal::Fault;
 use crate::spelling::is_name;
+use std::str;
 
 // A part of the text: a name is borrowed from it, numbers and registers are data.
 #[derive(Clone, Copy, Debug)]
@@ -14,72 +15,40 @@ pub enum Word<'a> {
     Handle(u8),
 }
 
+// Where the first separator stands.
+fn first(text: &[u8], separator: u8) -> Option<usize>
+    ensures { result ≡ position (λ b. b == separator) text.now }
+{
+    text.iter().position(|b| *b == separator)
+}
+
 // What stands before the first separator, and what is left from it on.
 pub fn cut(text: &[u8], separator: u8) -> (&[u8], &[u8])
     ensures front { result.0.now ≡ take (span separator text.now) text.now }
     ensures back { result.1.now ≡ drop (span separator text.now) text.now }
 {
-    for (i, b) in text.iter().enumerate() {
-        if *b == separator {
-            return text.split_at(i);
-        }
-    }
-    text.split_at(text.len())
-}
-
-// The number that digits write, if it is at most `limit`.
-fn digits_value(digits: &[u8], limit: u32) -> Option<u32>
-    ensures { result ≡ digits_within limit digits.now }
-{
-    let most = u64::from(limit);
-    let mut n: u64 = 0;
-    for b in digits {
-        if !b.is_ascii_digit() {
-            return None;
-        }
-        n = 10 * n + u64::from(*b - b'0');
-        if n > most {
-            return None;
-        }
-    }
-    Some(n as u32)
-}
-
-// The same, of at least one digit and with no leading zero.
-fn numeral_value(digits: &[u8], limit: u32) -> Option<u32>
-    ensures { result ≡ numeral_within limit digits.now }
-{
-    match digits {
-        [] | [b'0', _, ..] => None,
-        _ => digits_value(digits, limit),
+    match first(text, separator) {
+        Some(i) => text.split_at(i),
+        None => (text, &[]),
     }
 }
 
-// What stands after a minus: never 0.
-fn negative(digits: &[u8]) -> Option<i32>
-    ensures { result ≡ negated (numeral_within 2147483648 digits.now) }
+// Whether std's `parse` may take what is no number here.
+fn is_loose(bytes: &[u8]) -> bool
+    ensures { result ≡ loose bytes.now }
 {
-    match numeral_value(digits, 2147483648) {
-        None | Some(0) => None,
-        Some(m) => Some((-i64::from(m)) as i32),
-    }
-}
-
-fn positive(digits: &[u8]) -> Option<i32>
-    ensures { result ≡ posited (numeral_within 2147483647 digits.now) }
-{
-    match numeral_value(digits, 2147483647) {
-        None => None,
-        Some(m) => Some(m as i32),
-    }
+    matches!(bytes, [b'+', ..] | [b'0', _, ..] | [b'-', b'0', ..])
 }
 
 fn number(bytes: &[u8]) -> Option<i32>
     ensures { result ≡ number_of bytes.now }
 {
-    match bytes {
-        [b'-', digits @ ..] => negative(digits),
-        _ => positive(bytes),
+    if is_loose(bytes) {
+        return None;
+    }
+    match str::from_utf8(bytes) {
+        Ok(text) => text.parse().ok(),
+        Err(_) => None,
     }
 }
 

@@ -3,6 +3,8 @@ ghost use Rattle.std.specs.Prelude.{◌≡◌};
 ghost use Rattle.words.specs.Refusals.{number_of};
 ghost use Rattle.words.specs.Refusals.{broken as broken_at};
 
+use std::fmt;
+
 #[derive(Clone, Copy, Debug, PartialEq, Eq)]
 pub enum Refusal {
     Overlong,
@@ -18,7 +20,7 @@ pub enum Refusal {
 }
 
 impl Refusal {
-    // The number that is printed for it.
+    // The number that is printed for it. Not discriminants: with one number given twice they would not even compile.
     pub fn number(self) -> u8
         ensures { result ≡ number_of self }
     {
@@ -53,5 +55,16 @@ impl Fault {
             refusal: Refusal::Broken,
             line,
         }
+    }
+}
+
+impl fmt::Display for Fault {
+    ghost use Rattle.std.specs.Prelude.{Some};
+    ghost use Rattle.words.specs.Refusals.{show_fault};
+
+    ghost output = { λ f. Some (show_fault f) };
+
+    fn fmt<W: fmt::Write>(&self, f: &mut fmt::Formatter<W>) -> fmt::Result {
+        write!(f, "NO {} {}", self.refusal.number(), self.line)
     }
 }

@@ -1,23 +1,21 @@
 // Names and their bytes.
 ghost use Rattle.std.specs.Prelude.{◌≡◌, if◌then◌else◌, Some, None};
-ghost use Rattle.words.specs.Names.{is_name};
+ghost use Rattle.words.specs.Names.{lowers, is_name};
 
 use crate::name::Name;
 use crate::reading::cut;
+
+fn are_lower(bytes: &[u8]) -> bool
+    ensures { result ≡ lowers bytes.now }
+{
+    bytes.iter().all(|b| b.is_ascii_lowercase())
+}
 
 // Whether the bytes are 1 to 8 lowercase letters.
 pub(crate) fn is_name(bytes: &[u8]) -> bool
     ensures { result ≡ is_name bytes.now }
 {
-    if bytes.is_empty() || bytes.len() > 8 {
-        return false;
-    }
-    for b in bytes {
-        if !b.is_ascii_lowercase() {
-            return false;
-        }
-    }
-    true
+    (1..=8).contains(&bytes.len()) && are_lower(bytes)
 }
 
 impl Name {
@@ -28,9 +26,8 @@ impl Name {
         if !is_name(bytes) {
             return None;
         }
-        let len = bytes.len();
         let mut letters = [0; 8];
-        letters[0..len].copy_from_slice(bytes);
+        letters[..bytes.len()].copy_from_slice(bytes);
         Some(Name { letters })
     }
 

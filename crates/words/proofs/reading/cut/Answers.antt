@@ -1,12 +1,15 @@
-use Rattle.std.proofs.Common.{rules}
-use Rattle.words.proofs.Spans.{span_here, span_more, span_all}
+use Rattle.std.proofs.Common.{arith}
+use Rattle.std.proofs.lemmas.Bool.Decides.{nat_tests}
+use Rattle.std.proofs.lemmas.List.{take_all, drop_all}
+use Rattle.words.proofs.Spans.{span_position}
 use Rattle.words.proofs.reading.cut.Goals as goal
 
-pub returns-then-b-separator : goal.returns-then-b-separator
-returns-then-b-separator c = search (rules, span_here)
+pub returns-in-Some : goal.returns-in-Some
+returns-in-Some c =
+    let e = span_position c.args.separator c.args.text.now in
+    record { front = grind (arith, nat_tests); back = grind (arith, nat_tests) }
 
-pub loop-i-preserved : goal.loop-i-preserved
-loop-i-preserved c = search (rules, span_more)
-
-pub returns : goal.returns
-returns c = search (rules, span_all)
+pub returns-in-None : goal.returns-in-None
+returns-in-None c =
+    let e = span_position c.args.separator c.args.text.now in
+    record { front = grind (arith, nat_tests, take_all); back = grind (arith, nat_tests, drop_all) }

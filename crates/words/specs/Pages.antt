@@ -1,0 +1,37 @@
+-- What a page holds, and what writing leaves on it.
+use Rattle.std.specs.Prelude.{◌≡◌, ℕ, ◌+◌, ◌-◌, cond, Bool, List, [], ◌++◌, length, take, drop, Some, None, Option, Ok, Err, Result, nat_le}
+use Rattle.std.specs.Borrow.{MutBor}
+use Rattle.words.specs.declared.refusal.Refusal.{Refusal}
+use Rattle.words.specs.declared.refusal.Refusal.TheVariants.{Small}
+use Rattle.words.specs.declared.page.Page.{Page}
+
+-- a page over that buffer, with nothing on it
+pub record Begins (out : MutBor (List ℕ)) (p : Page) : Type 0 where
+  pub len : p.len ≡ 0
+  pub now : p.out.now ≡ out.now
+  pub same_reference : p.out.ghost_name ≡ out.ghost_name
+
+-- ys was written next, and nothing else changed
+pub record Wrote (p : Page) (ys : List ℕ) (q : Page) : Type 0 where
+  pub len : q.len ≡ p.len + length ys
+  pub size : length q.out.now ≡ length p.out.now
+  pub front : take q.len q.out.now ≡ take p.len p.out.now ++ ys
+  pub rest : drop q.len q.out.now ≡ drop q.len p.out.now
+  pub same_reference : q.out.ghost_name ≡ p.out.ghost_name
+
+-- whether there is room for that text
+abbrev pub fits : Page → List ℕ → Bool
+fits p ys = nat_le (p.len + length ys) (length p.out.now)
+
+-- n without k, where there are so many
+abbrev pub less : ℕ → ℕ → Option ℕ
+less n k = cond (nat_le k n) (Some (n - k)) None
+
+-- how much room is left after that text, where it fits
+abbrev pub left : Page → List ℕ → Option ℕ
+left p ys = less (length p.out.now) (p.len + length ys)
+
+-- ys was written next if there is room; else nothing changed
+pub record Put (p : Page) (ys : List ℕ) (q : Page) (r : Result (Unit {0}) Refusal) : Type 0 where
+  pub answer : r ≡ cond (fits p ys) (Ok tt) (Err Small)
+  pub after : Wrote p (cond (fits p ys) ys []) q
