@@ -38,11 +38,7 @@ fn print_outcome(rt: &HostRuntime, text: &[u8]) -> io::Result<()> {
     let empty = Empty::new(rt.alloc())?;
     let script = match read_exactly(empty, text) {
         Ok(script) => script,
-        Err(refused) => return println!(rt;
-            ": NO {} {}",
-            refused.fault.refusal.number(),
-            refused.fault.line
-        ),
+        Err(refused) => return println!(rt; ": {}", refused.fault),
     };
     let mut out = vec![in rt.alloc(); 0u8; text.len()]?;
     match script.list(&mut out) {

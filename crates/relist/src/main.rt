@@ -5,7 +5,7 @@ use script::{Empty, Read};
 use script_laws::read_exactly;
 use std::io;
 use std::io::{Read as Input, Write};
-use words::{Fault, Refusal};
+use words::Fault;
 
 // Standard input, as far as one byte past the longest script.
 fn input(rt: &HostRuntime) -> io::Result<Vec<u8>> {
@@ -18,12 +18,8 @@ fn print_listing(rt: &HostRuntime, script: &Read, room: usize) -> io::Result<()>
     let mut out = vec![in rt.alloc(); 0u8; room]?;
     match script.list(&mut out) {
         Ok(len) => rt.stdout().write_all(&out[0..len]),
-        Err(refusal) => print_refused(rt, Fault { refusal, line: 0 }),
+        Err(refusal) => println!(rt; "{}", Fault { refusal, line: 0 }),
     }
-}
-
-fn print_refused(rt: &HostRuntime, fault: Fault) -> io::Result<()> {
-    println!(rt; "NO {} {}", fault.refusal.number(), fault.line)
 }
 
 fn main(rt: HostRuntime) -> io::Result<()> {
@@ -31,6 +27,6 @@ fn main(rt: HostRuntime) -> io::Result<()> {
     let empty = Empty::new(rt.alloc())?;
     match read_exactly(empty, &text) {
         Ok(script) => print_listing(&rt, &script, text.len()),
-        Err(refused) => print_refused(&rt, refused.fault),
+        Err(refused) => println!(rt; "{}", refused.fault),
     }
 }
