@@ -29,13 +29,8 @@ fn text_of(input: &[u8]) -> Option<(&[u8], &[u8])>
     let (header, back) = cut(input, b'\n');
     let (_, length) = cut(header, b' ');
     let len = length_of(length)?;
-    let [_, body @ ..] = back else {
-        return None;
-    };
-    if len > body.len() {
-        return None;
-    }
-    Some(body.split_at(len))
+    let (_, body) = back.split_first()?;
+    body.split_at_checked(len)
 }
 
 // What comes of one text.
@@ -43,11 +38,7 @@ fn print_outcome(rt: &HostRuntime, text: &[u8]) -> io::Result<()> {
     let empty = Empty::new(rt.alloc())?;
     let script = match read_exactly(empty, text) {
         Ok(script) => script,
-        Err(refused) => return println!(rt;
-            ": NO {} {}",
-            refused.fault.refusal.number(),
-            refused.fault.line
-        ),
+        Err(refused) => return println!(rt; ": {}", refused.fault),
     };
     let mut out = vec![in rt.alloc(); 0u8; text.len()]?;
     match script.list(&mut out) {
@@ -59,7 +50,7 @@ fn print_outcome(rt: &HostRuntime, text: &[u8]) -> io::Result<()> {
 fn main(rt: HostRuntime) -> io::Result<()> {
     let mut input = Vec::new(rt.alloc());
     rt.stdin().read_to_end(&mut input)?;
-    let mut rest = &input[0..];
+    let mut rest = input.as_slice();
     while let Some((text, more)) = text_of(rest) {
         let (title, _) = cut(rest, b' ');
         rt.stdout().write_all(title)?;

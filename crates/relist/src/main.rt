@@ -5,21 +5,12 @@ use script::{Empty, Read};
 use script_laws::read_exactly;
 use std::io;
 use std::io::{Read as Input, Write};
-use words::{Fault, Refusal};
+use words::Fault;
 
 // Standard input, as far as one byte past the longest script.
 fn input(rt: &HostRuntime) -> io::Result<Vec<u8>> {
-    let mut text = vec![in rt.alloc(); 0u8; 32769]?;
-    let mut from = rt.stdin();
-    let mut len = 0;
-    while len < text.len() {
-        let count = from.read(&mut text[len..])?;
-        if count == 0 {
-            break;
-        }
-        len += count;
-    }
-    text.truncate(len);
+    let mut text = Vec::new(rt.alloc());
+    rt.stdin().take(32769).read_to_end(&mut text)?;
     Ok(text)
 }
 
@@ -27,12 +18,8 @@ fn print_listing(rt: &HostRuntime, script: &Read, room: usize) -> io::Result<()>
     let mut out = vec![in rt.alloc(); 0u8; room]?;
     match script.list(&mut out) {
         Ok(len) => rt.stdout().write_all(&out[0..len]),
-        Err(refusal) => print_refused(rt, Fault { refusal, line: 0 }),
+        Err(refusal) => println!(rt; "{}", Fault { refusal, line: 0 }),
     }
-}
-
-fn print_refused(rt: &HostRuntime, fault: Fault) -> io::Result<()> {
-    println!(rt; "NO {} {}", fault.refusal.number(), fault.line)
 }
 
 fn main(rt: HostRuntime) -> io::Result<()> {
@@ -40,6 +27,6 @@ fn main(rt: HostRuntime) -> io::Result<()> {
     let empty = Empty::new(rt.alloc())?;
     match read_exactly(empty, &text) {
         Ok(script) => print_listing(&rt, &script, text.len()),
-        Err(refused) => print_refused(&rt, refused.fault),
+        Err(refused) => println!(rt; "{}", refused.fault),
     }
 }
