@@ -23,7 +23,7 @@ pub trait Carries<E: Element>: Copy {
         ensures { result ≡ carried self };
 }
 
-// Where a sent element went.
+// Where a sent element went: an `Option` of the receiver would not say it.
 #[derive(Clone, Copy)]
 pub enum Sent<X> {
     // To the first queued receiver, who waits no more.

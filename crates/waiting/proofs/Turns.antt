@@ -1,6 +1,6 @@
 -- Who is ahead in the line is served first.
-use Rattle.std.proofs.Common.{◌≡◌, ℕ, ◌<◌, true, false, cond, not, ◌||◌, eqb, List, [], ◌∷◌, ◌++◌, length, Some, None, Option, sym, refl, ap, ◌∙◌, subst, ⊎_elim, arith, length-set}
-use Rattle.std.proofs.lemmas.Bool.{cases_Bool, cases_eq, eqb-true, ne_eqb, and_parts, true≢false}
+use Rattle.std.proofs.Common.{◌≡◌, ℕ, true, false, cond, not, ◌||◌, eqb, List, [], ◌∷◌, ◌++◌, length, Some, None, Option, sym, refl, ap, ◌∙◌, arith, length-set}
+use Rattle.std.proofs.lemmas.Bool.{eqb-true, ne_eqb, and_parts, true≢false}
 use Rattle.std.proofs.lemmas.List.Folds.{list_any-append}
 use Rattle.std.proofs.lemmas.Map.Views.{any-filter_same}
 use Rattle.std.proofs.lemmas.Bool.Decides.{nat_tests}
@@ -71,11 +71,8 @@ module _ {X : Type 0} (s : Side) (c : ℕ) where
 
   left_holds : (a b r : ℕ) (line : List ℕ) (t : List (Row X)) → waits a (without r line) ≡ true → Holds a b (record { line = line; table = t }) → Holds a b (record { line = without r line; table = t })
   left_holds a b r line t w h =
-      ⊎_elim
-      (λ (e : r ≡ a). absurd (true≢false (sym w ∙ ap (λ n. waits n (without r line)) (sym e) ∙ waits_without r line)))
-      (λ (ne : r ≡ a → ⊥).
-      (h.0, ahead_without a b r ne line h.1, ap (among a) (queue_without s c r line t) ∙ among_other a r ne (queue s c line t) ∙ h.2))
-      (cases_eq r a)
+      let other : r ≡ a → ⊥ = λ e. true≢false (sym w ∙ ap (λ n. waits n (without r line)) (sym e) ∙ waits_without r line) in
+      (h.0, ahead_without a b r other line h.1, ap (among a) (queue_without s c r line t) ∙ among_other a r other (queue s c line t) ∙ h.2)
 
   released_holds : (a b : ℕ) (o : Option (Entry X)) (line : List ℕ) (t : List (Row X)) → waits a (released o line) ≡ true → Holds a b (record { line = line; table = t }) → Holds a b (record { line = released o line; table = t })
   released_holds a b None line t w h = h
@@ -84,20 +81,12 @@ module _ {X : Type 0} (s : Side) (c : ℕ) where
   joined_holds : (a b r : ℕ) (ws : Row X) (st : State X) → Holds a b st → Holds a b (step (joins r ws) st)
   joined_holds a b r ws st h =
       let after : State X = record { line = st.line ++ r ∷ []; table = written r ws st.table } in
-      ⊎_elim
-      (λ (e : may_join r (length ws) st.line ≡ true).
+      let joined : may_join r (length ws) st.line ≡ true → Holds a b after = λ e.
       let p = may_join_parts r (length ws) st.line e in
-      let room : r < length st.table = omega (arith, p.0, h.0) in
-      let new : Holds a b after = (
-        length-set st.table r ws ∙ h.0,
-        ahead_push a b r st.line h.1,
-        ap (among a) (queue_joined s c r ws st.table st.line room p.2)
-            ∙ among_append a (queue s c st.line st.table) (places s c r 0 ws)
-            ∙ ap (λ b. b || among a (places s c r 0 ws)) h.2,
-      ) in
-      subst (λ v. Holds a b (cond v after st)) (sym e) new)
-      (λ (e : may_join r (length ws) st.line ≡ false). subst (λ v. Holds a b (cond v after st)) (sym e) h)
-      (cases_Bool (may_join r (length ws) st.line))
+      let stands : among a (queue s c (st.line ++ r ∷ []) (written r ws st.table)) ≡ true =
+      grind (arith, nat_tests, queue_joined s c r ws st.table st.line, among_append a (queue s c st.line st.table) (places s c r 0 ws)) in
+      (length-set st.table r ws ∙ h.0, ahead_push a b r st.line h.1, stands) in
+      elim (may_join r (length ws) st.line) as (λ v. (v ≡ true → Holds a b after) → Holds a b (cond v after st)) [ true ↦ λ k. k refl | false ↦ λ k. h ] joined
 
   step_holds : (a b : ℕ) (e : Step X) (st : State X) → waits a (step e st).line ≡ true → Holds a b st → Holds a b (step e st)
   step_holds a b (joins r ws) st w h = joined_holds a b r ws st h

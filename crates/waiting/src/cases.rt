@@ -6,7 +6,7 @@ use crate::wish::{Entry, Queue, Side, Wish};
 
 impl Queue {
     // Whether a case stands in this queue.
-    pub(crate) fn stands<X: Copy>(self, wish: Wish<X>) -> bool
+    fn stands<X: Copy>(self, wish: Wish<X>) -> bool
         ensures { result ≡ stands_at self.side self.channel wish }
     {
         match (self.side, wish) {

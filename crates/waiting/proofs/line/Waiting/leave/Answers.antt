@@ -1,5 +1,5 @@
 -- What striking a routine off the line does to every queue.
-use Rattle.std.proofs.Common.{map, vec_items, sym, subst, refl, arith}
+use Rattle.std.proofs.Common.{map, vec_items, sym, subst, arith}
 use Rattle.waiting.specs.Queues.{Orderly}
 use Rattle.waiting.proofs.Lines.{orderly_without}
 use Rattle.waiting.proofs.Orders.{queue_without, gone}
@@ -12,10 +12,6 @@ returns-clause-gone g c =
 pub returns-clause-order : goal.returns-clause-order
 returns-clause-order g c =
     rw (c.strike.ensures.items, ← c.self.view_is) (λ s ch. queue_without s ch c.args.routine c.self.inside.line.items (map vec_items c.self.inside.table.items))
-
-pub returns-clause-steps : goal.returns-clause-steps
-returns-clause-steps g c =
-    rw (c.strike.ensures.items, ← c.self.view_is) refl
 
 pub invariant_of-self : goal.invariant_of-self
 invariant_of-self g c = (
