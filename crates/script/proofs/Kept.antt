@@ -15,7 +15,8 @@ use Rattle.text_laws.proofs.Numbers.{either}
 use Rattle.text_laws.proofs.WordLaws.{err_ok, ok_same}
 use Rattle.text_laws.proofs.LineLaws.{lists_back}
 use Rattle.script.specs.Rules.{Standing, fresh, standing, judge}
-use Rattle.script.specs.Texts.{pieces, none_left, read_piece, admitted, judged, read_on, read_script}
+use Rattle.script.specs.Texts.{pieces, none_left, read_piece, admitted, judged, read_on, read_script, show}
+use Rattle.script.specs.States.{ListedBack}
 use Rattle.script.specs.Kept.{Admitted, Kept}
 use Rattle.script.proofs.Relisting.{script_lists_back}
 
@@ -62,3 +63,12 @@ read_kept t ls e =
     let k = taken 1 fresh (pieces t) ls q.1 in
     record { good = k.good; admitted = k.admitted; short = omega (arith, ap length back, ltb-false 32768 (length t) q.0) })
     (either (ltb 32768 (length t)) (Err (fault Overlong 0)) (read_on 1 fresh (pieces t)) (Ok ls) e)
+
+-- so it has the size of its text, which it is listed as
+pub kept_whole : (t : List ℕ) (ls : List (Line (List ℕ))) → Ok ls ≡ read_script t → (length t ≡ length (show ls)) × ∥ Kept ls ∥₁
+kept_whole t ls e = (ap length (sym (script_lists_back t ls (sym e))), ∣ read_kept t ls (sym e) ∣₁)
+
+pub listed_back : (t : List ℕ) (ls : List (Line (List ℕ))) → Ok ls ≡ read_script t → ListedBack ls t
+listed_back t ls e =
+    let same = script_lists_back t ls (sym e) in
+    record { same_text = same; same_script = ap read_script same ∙ sym e }

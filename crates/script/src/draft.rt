@@ -1,24 +1,23 @@
-// A script in the making: its lines, the names declared, and what they add up to.
-ghost use Rattle.std.specs.Prelude.{◌≡◌, ◌+◌, ◌≤◌, vec_len, vec_capacity};
-
-use crate::tally::Tally;
+// A script in the making: its lines, and what they leave. A contract sees these two.
+use crate::standing::Standing;
 use lines::Line;
+use std::marker::Model;
 use words::Name;
 
 // The room for everything that a script can hold is there from the beginning.
 #[derive(Drop)]
 pub struct Draft {
     pub(crate) lines: Vec<Line<Name>>,
-    pub(crate) channels: Vec<Name>,
-    pub(crate) bodies: Vec<Name>,
-    pub(crate) tally: Tally,
-    ghost roomy: { 576 ≤ vec_capacity lines },
-    ghost wide: { 32 ≤ vec_capacity channels },
-    ghost deep: { 32 ≤ vec_capacity bodies },
-    ghost channelled: { vec_len channels ≡ tally.channels },
-    ghost bodied: { vec_len bodies ≡ tally.bodies },
-    ghost counted: { vec_len lines ≡ tally.channels + tally.bodies + tally.lines },
-    ghost small: { tally.channels ≤ 32 },
-    ghost short: { tally.bodies ≤ 32 },
-    ghost brief: { tally.lines ≤ 512 },
+    pub(crate) standing: Standing,
+}
+
+impl Model for Draft {
+    ghost use Rattle.std.specs.Prelude.{◌≤◌, length, vec_capacity};
+    ghost use Rattle.script.specs.Drafts.{Made, Within};
+
+    ghost Value = { Made };
+
+    ghost view = { λ d. record { lines = d.lines.items; standing = d.standing } };
+
+    ghost invariant = { λ d. (576 ≤ vec_capacity d.lines) × Within d.standing.tally (length d.lines.items) };
 }
