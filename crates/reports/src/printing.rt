@@ -1,11 +1,12 @@
 // Printing a report.
 ghost use Rattle.std.specs.Prelude.{◌≡◌, ◌^◌, ◌<◌, ◌≤◌, ◌++◌, [], ◌∷◌, map, IfOk};
 ghost use Rattle.words.specs.Shows.{show_fields, field_said};
+ghost use Rattle.words.specs.Pages.{Prints};
 ghost use Rattle.reports.specs.Shows.{natural, text_line, way, show_turn, show_event, show_picked, show_move, show_report};
 ghost use Rattle.std.specs.Int.Signed.{mag};
 ghost use Rattle.words.specs.Words.{number};
 ghost use Rattle.reports.specs.Bounds.{FitsPass, FitsDeed, FitsEvent, FitsPicked, FitsMove};
-ghost use Rattle.reports.specs.Prints.{Printed, Prints, PrintsShort};
+ghost use Rattle.reports.specs.Prints.{Printed, PrintsShort};
 
 use crate::report::{Deed, Event, Move, Pass, Picked, Report};
 use words::{Field, Page, Refusal};

@@ -1,5 +1,6 @@
 use Rattle.std.proofs.Common.{codes, arith}
-use Rattle.reports.proofs.Texts.{prints, no_room, clash, in_turn}
+use Rattle.words.proofs.Pages.{prints, clash}
+use Rattle.reports.proofs.Texts.{no_room, in_turn}
 use Rattle.reports.proofs.Lengths.{event_length, picked_length, move_length}
 use Rattle.reports.proofs.report.Report.put.Goals as goal
 
