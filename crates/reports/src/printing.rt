@@ -33,7 +33,7 @@ fn integer(v: i32) -> Field
     Field::Integer(v)
 }
 
-// Each of these writes its text next, where there is room for it.
+// Each of these writes its text next, where there is room for it, and tells that its numbers fit their types.
 fn put_line(page: &mut Page, mark: &[u8], fields: &[Field]) -> Result<(), Refusal>
     ensures { Prints page.old (text_line mark.now (map field_said fields.now)) page.new result }
 {
