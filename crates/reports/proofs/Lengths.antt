@@ -71,6 +71,8 @@ move_length mark None hm h = omega arith
 move_length mark (Some x) hm h =
     omega (arith, text_line_width mark (natural x.channel ∷ (natural x.code ∷ (natural x.routine ∷ []))), three x.channel h.0, ten x.code h.1, three x.routine h.2)
 
+pub ruleset lengths = (event_length, picked_length, move_length)
+
 pub short_reports : ShortReports
 short_reports x h =
     let a = event_length x.event h.0 in

@@ -1,11 +1,12 @@
 // Printing a report.
 ghost use Rattle.std.specs.Prelude.{◌≡◌, ◌^◌, ◌<◌, ◌≤◌, ◌++◌, [], ◌∷◌, map, IfOk};
 ghost use Rattle.words.specs.Shows.{show_fields, field_said};
+ghost use Rattle.words.specs.Pages.{Prints};
 ghost use Rattle.reports.specs.Shows.{natural, text_line, way, show_turn, show_event, show_picked, show_move, show_report};
 ghost use Rattle.std.specs.Int.Signed.{mag};
 ghost use Rattle.words.specs.Words.{number};
 ghost use Rattle.reports.specs.Bounds.{FitsPass, FitsDeed, FitsEvent, FitsPicked, FitsMove};
-ghost use Rattle.reports.specs.Prints.{Printed, Prints, PrintsShort};
+ghost use Rattle.reports.specs.Prints.{Printed, PrintsShort};
 
 use crate::report::{Deed, Event, Move, Pass, Picked, Report};
 use words::{Field, Page, Refusal};
@@ -32,7 +33,7 @@ fn integer(v: i32) -> Field
     Field::Integer(v)
 }
 
-// Each of these writes its text next, where there is room for it.
+// Each of these writes its text next, where there is room for it, and tells that its numbers fit their types.
 fn put_line(page: &mut Page, mark: &[u8], fields: &[Field]) -> Result<(), Refusal>
     ensures { Prints page.old (text_line mark.now (map field_said fields.now)) page.new result }
 {

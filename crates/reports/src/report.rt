@@ -15,7 +15,7 @@ pub enum Panic {
 }
 
 impl Panic {
-    // The number that is printed for it.
+    // The number that is printed for it. Not discriminants: with one number given twice they would not even compile.
     pub fn number(self) -> u8
         ensures { result ≡ number_of self }
     {

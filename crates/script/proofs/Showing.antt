@@ -1,13 +1,14 @@
 -- Listing one line more.
-use Rattle.std.proofs.Common.{◌≡◌, ℕ, ◌+◌, ◌<◌, ◌≤◌, ltb, leb, List, [], ◌∷◌, ◌++◌, length, get_or, take, drop, Ok, Err, sym, refl, ap, ◌∙◌, zero-add, arith}
+use Rattle.std.proofs.Common.{◌≡◌, ℕ, ◌+◌, ◌<◌, ◌≤◌, true, List, [], ◌∷◌, ◌++◌, length, get_or, take, drop, Ok, Result, sym, refl, ap, ◌∙◌, subst, arith}
 use Rattle.std.proofs.lemmas.List.{append_assoc, length-append, take_more, take-append-drop, take_all}
-use Rattle.std.proofs.lemmas.Bool.{cond-true, cond-false, le-leb, le-ltb, lt-ltb}
-use Rattle.words.specs.declared.refusal.Refusal.TheVariants.{Small}
-use Rattle.words.specs.Shows.{written, Wrote, Put}
+use Rattle.std.proofs.lemmas.Bool.{leb-true}
+use Rattle.words.specs.declared.refusal.Refusal.{Refusal}
+use Rattle.words.specs.declared.page.Page.{Page}
+use Rattle.words.specs.Pages.{Wrote, Prints, fits}
+use Rattle.words.proofs.Pages.{wrote_then, prints}
 use Rattle.lines.specs.declared.line.Line.{Line}
 use Rattle.lines.specs.Shows.{show_line}
 use Rattle.script.specs.Texts.{show}
-use Rattle.script.specs.States.{Printed}
 
 show_append : (ks ls : List (Line (List ℕ))) → show (ks ++ ls) ≡ show ks ++ show ls
 unfolding show
@@ -29,10 +30,15 @@ module _ (ls : List (Line (List ℕ))) (i : ℕ) (h : i < length ls) (x : Line (
   unfolding show
   shown_more = ap show (take_more ls i x h ∙ ap (λ y. take i ls ++ (y ∷ [])) (sym e)) ∙ show_append (take i ls) (x ∷ [])
 
-  -- there is room for it and its end
-  pub shown_room : length (shown ls i) + length (show_line x) + 1 ≤ length (show ls)
-  shown_room =
-      omega (arith, shown_le ls (i + 1), ap length shown_more, length-append (shown ls i) (show_line x ++ (10 ∷ [])), length-append (show_line x) (10 ∷ []))
+  -- it is printed next, where there is room for all of them
+  pub next : (p q r : Page) (done : Result (Unit {0}) Refusal) → (fits p (show ls) ≡ true → Wrote p (shown ls i) q) → Prints q (show_line x ++ (10 ∷ [])) r done → fits p (show ls) ≡ true → (done ≡ Ok tt) × Wrote p (shown ls (i + 1)) r
+  next p q r done sofar line f =
+      let room = leb-true (p.len + length (show ls)) (length p.out.now) f in
+      let before = sofar f in
+      let longer = length-append (shown ls i) (show_line x ++ (10 ∷ [])) in
+      let here = prints q (show_line x ++ (10 ∷ [])) r done line (omega (arith, shown_le ls (i + 1), ap length shown_more)) in
+      let P : List ℕ → Type 0 = λ t. Wrote p t r in
+      (here.0, subst P (sym shown_more) (wrote_then p (shown ls i) q (show_line x ++ (10 ∷ [])) r before here.1))
 
 pub shown_all : (ls : List (Line (List ℕ))) (i : ℕ) → length ls ≤ i → shown ls i ≡ show ls
 shown_all ls i h = ap show (take_all i ls h)
@@ -40,24 +46,3 @@ shown_all ls i h = ap show (take_all i ls h)
 pub shown_none : (ls : List (Line (List ℕ))) → shown ls 0 ≡ []
 unfolding show
 shown_none ls = refl
-
--- ---- what was written
-pub put_wrote : (xs : List ℕ) (at : ℕ) (ys xs' : List ℕ) (r : ℕ) → at + length ys ≤ length xs → Put xs at ys xs' (Ok r) → Wrote xs at ys xs' r
-put_wrote xs at ys xs' r h p =
-    let t = le-leb (at + length ys) (length xs) h in
-    let same : Ok r ≡ Ok (at + length ys) = p.answer ∙ cond-true (leb (at + length ys) (length xs)) _ _ t in
-    record { ends = (cc); after = p.after ∙ cond-true (leb (at + length ys) (length xs)) _ _ t }
-
-pub printed_all : (xs ys xs' : List ℕ) (r : ℕ) → length ys ≤ length xs → Wrote xs 0 ys xs' r → Printed xs ys xs' (Ok r)
-unfolding written
-printed_all xs ys xs' r h w =
-    let t = le-ltb (length xs) (length ys) h in
-    record {
-      answered = ap Ok (w.ends ∙ zero-add (length ys)) ∙ sym (cond-false (ltb (length xs) (length ys)) _ _ t);
-      after = w.after ∙ ap (λ n. ys ++ drop n xs) (zero-add (length ys)) ∙ sym (cond-false (ltb (length xs) (length ys)) _ _ t);
-    }
-
-pub printed_none : (xs ys : List ℕ) → length xs < length ys → Printed xs ys xs (Err Small)
-printed_none xs ys h =
-    let t = lt-ltb (length xs) (length ys) h in
-    record { answered = sym (cond-true (ltb (length xs) (length ys)) _ _ t); after = sym (cond-true (ltb (length xs) (length ys)) _ _ t) }

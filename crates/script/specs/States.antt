@@ -3,7 +3,6 @@ use Rattle.std.specs.Prelude.{◌≡◌, ℕ, cond, List, ◌++◌, length, drop
 use Rattle.words.specs.declared.refusal.Refusal.{Refusal}
 use Rattle.words.specs.declared.refusal.Refusal.TheVariants.{Small}
 use Rattle.words.specs.declared.refusal.Fault.{Fault}
-use Rattle.words.specs.Shows.{Wrote}
 use Rattle.lines.specs.declared.line.Line.{Line}
 use Rattle.script.specs.declared.state.Unread.{Unread}
 use Rattle.script.specs.Texts.{read_script, show}
@@ -21,8 +20,3 @@ pub record ListedBack (ls : List (Line (List ℕ))) (t : List ℕ) : Type 0 wher
 pub record Printed (out t out' : List ℕ) (r : Result ℕ Refusal) : Type 0 where
   pub answered : r ≡ cond (nat_lt (length out) (length t)) (Err Small) (Ok (length t))
   pub after : out' ≡ cond (nat_lt (length out) (length t)) out (t ++ drop (length t) out)
-
--- ys was written at `at`, and r says where it ends
-abbrev pub Ends : List ℕ → ℕ → List ℕ → List ℕ → Result ℕ Refusal → Type 0
-Ends xs at ys xs' (Ok r) = Wrote xs at ys xs' r
-Ends xs at ys xs' (Err e) = ⊥

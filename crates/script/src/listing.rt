@@ -1,23 +1,30 @@
 // Listing a script that was read.
-ghost use Rattle.std.specs.Prelude.{◌≡◌, ◌+◌, ◌≤◌, [], ◌∷◌, ◌++◌, length};
-ghost use Rattle.words.specs.Shows.{Wrote};
+ghost use Rattle.std.specs.Prelude.{◌≡◌, [], ◌∷◌, ◌++◌};
+ghost use Rattle.words.specs.Pages.{Prints};
 ghost use Rattle.lines.specs.Shows.{show_line};
 ghost use Rattle.script.specs.Kept.{Kept};
 ghost use Rattle.script.specs.Texts.{show};
-ghost use Rattle.script.specs.States.{Printed, Ends};
+ghost use Rattle.script.specs.States.{Printed};
 
 use crate::state::Read;
 use lines::{Line, put_line};
-use words::{Name, Refusal};
+use words::{Name, Page, Refusal};
 
-// A line and its end, where there is room for them.
-fn put_ended(out: &mut [u8], at: usize, line: Line<Name>) -> Result<usize, Refusal>
-    requires { at + length (show_line line) + 1 ≤ length out.old }
-    ensures { Ends out.old at (show_line line ++ (10 ∷ [])) out.new result }
+// Writes a line and its end next, where there is room for them.
+fn put_ended(page: &mut Page, line: Line<Name>) -> Result<(), Refusal>
+    ensures { Prints page.old (show_line line ++ (10 ∷ [])) page.new result }
 {
-    let end = put_line(out, at, line)?;
-    out[end] = b'\n';
-    Ok(end + 1)
+    put_line(page, line)?;
+    page.end_line()
+}
+
+fn put_lines(page: &mut Page, lines: &[Line<Name>]) -> Result<(), Refusal>
+    ensures { Prints page.old (show lines.now) page.new result }
+{
+    for line in lines {
+        put_ended(page, *line)?;
+    }
+    Ok(())
 }
 
 impl Read {
@@ -36,10 +43,8 @@ impl Read {
         if out.len() < self.size {
             return Err(Refusal::Small);
         }
-        let mut at = 0;
-        for line in self.draft.lines() {
-            at = put_ended(out, at, *line)?;
-        }
-        Ok(at)
+        let mut page = Page::new(out);
+        put_lines(&mut page, self.draft.lines())?;
+        Ok(page.len())
     }
 }

@@ -1,8 +1,10 @@
 -- One write after another.
-use Rattle.std.proofs.Common.{◌≡◌, MutBor, List, [], ◌++◌, ℕ, length, take, drop, sym, refl, ap, ◌∙◌, add-zero, arith}
+use Rattle.std.proofs.Common.{◌≡◌, ◌+◌, ◌≤◌, true, Ok, Err, Result, MutBor, subst, List, [], ◌++◌, ℕ, length, take, drop, sym, refl, ap, ◌∙◌, add-zero, arith}
 use Rattle.std.proofs.lemmas.List.{append_assoc, append-nil, length-append, take-append-drop, drop-drop}
+use Rattle.std.proofs.lemmas.Bool.{le-leb, leb-true, cond-true}
+use Rattle.words.specs.declared.refusal.Refusal.{Refusal}
 use Rattle.words.specs.declared.page.Page.{Page}
-use Rattle.words.specs.Pages.{Begins, Wrote}
+use Rattle.words.specs.Pages.{Begins, Wrote, Put, fits, Prints}
 
 pub wrote_none : (p : Page) → Wrote p [] p
 wrote_none p = record {
@@ -27,12 +29,29 @@ wrote_then p ys q zs r a b = record {
     rest = b.rest ∙ ap (λ n. drop n q.out.now) b.len ∙ sym (drop-drop (length zs) q.len q.out.now) ∙ ap (drop (length zs)) a.rest
         ∙ drop-drop (length zs) q.len p.out.now ∙ ap (λ n. drop n p.out.now) (sym b.len)
 
--- a buffer on which one text was written, from the start
-pub whole : (out : MutBor (List ℕ)) (p : Page) (ys : List ℕ) (q : Page) → Begins out p → Wrote p ys q → (q.len ≡ length ys) × (q.out.now ≡ ys ++ drop (length ys) out.now)
-whole out p ys q b w =
-    let len : q.len ≡ length ys = omega (arith, b.len, w.len) in (
-      len,
-      sym (take-append-drop q.len q.out.now)
-          ∙ ap (λ l. l ++ drop q.len q.out.now) (w.front ∙ ap (λ n. take n p.out.now ++ ys) b.len)
-          ∙ ap (λ l. ys ++ l) (w.rest ∙ ap (λ n. drop n p.out.now) len ∙ ap (drop (length ys)) b.now),
-    )
+-- ---- on a page that has room
+pub prints : (p : Page) (ys : List ℕ) (q : Page) (r : Result (Unit {0}) Refusal) → Prints p ys q r → p.len + length ys ≤ length p.out.now → (r ≡ Ok tt) × Wrote p ys q
+prints p ys q r h room =
+    let f = le-leb (p.len + length ys) (length p.out.now) room in
+    (h.answer f, h.after f)
+
+pub prints_put : (p : Page) (ys : List ℕ) (q : Page) (r : Result (Unit {0}) Refusal) → Put p ys q r → Prints p ys q r
+prints_put p ys q r h = record {
+  answer = λ f. h.answer ∙ cond-true (fits p ys) _ _ f;
+  after = λ f. let P : List ℕ → Type 0 = λ t. Wrote p t q in subst P (cond-true (fits p ys) ys [] f) h.after;
+}
+
+-- one text after another
+pub prints_then : (p : Page) (ys : List ℕ) (q : Page) (r' : Result (Unit {0}) Refusal) (zs : List ℕ) (s : Page) (r : Result (Unit {0}) Refusal) → Prints p ys q r' → Prints q zs s r → Prints p (ys ++ zs) s r
+prints_then p ys q r' zs s r a b = record { answer = λ f. (both f).0; after = λ f. (both f).1 }
+  where
+    both : fits p (ys ++ zs) ≡ true → (r ≡ Ok tt) × Wrote p (ys ++ zs) s
+    both f =
+        let room = leb-true (p.len + length (ys ++ zs)) (length p.out.now) f in
+        let sum = length-append ys zs in
+        let one = (prints p ys q r' a (omega arith)).1 in
+        let two = prints q zs s r b (omega arith) in
+        (two.0, wrote_then p ys q zs s one two.1)
+
+pub clash : {r : Result (Unit {0}) Refusal} {e : Refusal} → r ≡ Ok tt → r ≡ Err e → ⊥
+clash a b = let z : ◌≡◌ {A = ℕ} 0 1 = cc in omega arith

@@ -1,5 +1,5 @@
 -- What a page holds, and what writing leaves on it.
-use Rattle.std.specs.Prelude.{◌≡◌, ℕ, ◌+◌, ◌-◌, cond, Bool, List, [], ◌++◌, length, take, drop, Some, None, Option, Ok, Err, Result, nat_le}
+use Rattle.std.specs.Prelude.{◌≡◌, ℕ, ◌+◌, ◌-◌, true, cond, Bool, List, [], ◌++◌, length, take, drop, Some, None, Option, Ok, Err, Result, nat_le}
 use Rattle.std.specs.Borrow.{MutBor}
 use Rattle.words.specs.declared.refusal.Refusal.{Refusal}
 use Rattle.words.specs.declared.refusal.Refusal.TheVariants.{Small}
@@ -35,3 +35,8 @@ left p ys = less (length p.out.now) (p.len + length ys)
 pub record Put (p : Page) (ys : List ℕ) (q : Page) (r : Result (Unit {0}) Refusal) : Type 0 where
   pub answer : r ≡ cond (fits p ys) (Ok tt) (Err Small)
   pub after : Wrote p (cond (fits p ys) ys []) q
+
+-- ys is written next on a page that has room for it
+pub record Prints (p : Page) (ys : List ℕ) (q : Page) (r : Result (Unit {0}) Refusal) : Type 0 where
+  pub answer : fits p ys ≡ true → r ≡ Ok tt
+  pub after : fits p ys ≡ true → Wrote p ys q
