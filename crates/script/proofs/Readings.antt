@@ -1,13 +1,11 @@
 -- One line read into a draft, and what is left of the text.
-use Rattle.std.proofs.Common.{◌≡◌, ℕ, ◌+◌, Bool, List, [], ◌∷◌, ◌++◌, Some, None, Ok, Err, Option, Result, sym, refl, ap, ◌∙◌}
+use Rattle.std.proofs.Common.{◌≡◌, ℕ, ◌+◌, List, [], ◌∷◌, ◌++◌, Some, None, Ok, Err, Result, sym, refl, ap, ◌∙◌}
 use Rattle.std.proofs.lemmas.List.{append_assoc, append-nil}
-use Rattle.words.specs.declared.refusal.Refusal.{Refusal}
 use Rattle.words.specs.declared.refusal.Fault.{Fault}
-use Rattle.words.specs.Refusals.{fault}
 use Rattle.lines.specs.declared.line.Line.{Line}
 use Rattle.lines.specs.Roles.{role}
-use Rattle.script.specs.Rules.{standing, judge}
-use Rattle.script.specs.Texts.{pieces, none_left, read_piece, admitted, judged, read_on}
+use Rattle.script.specs.Rules.{standing}
+use Rattle.script.specs.Texts.{pieces, read_piece, admitted, judged, read_on}
 use Rattle.script.specs.declared.text.Piece.{Piece}
 use Rattle.script.specs.declared.text.Pieces.{Pieces}
 use Rattle.script.specs.Pieces.{NextPiece}

@@ -1,7 +1,6 @@
 use Rattle.std.proofs.Common.{ap, ◌∙◌, arith}
 use Rattle.script.specs.Drafts.{reading}
-use Rattle.script.proofs.Kept.{kept_whole, listed_back}
-use Rattle.script.proofs.Relisting.{from_blank}
+use Rattle.script.proofs.Kept.{kept_whole, listed_back, from_blank}
 use Rattle.script.proofs.state.Empty.read.Goals as goal
 
 pub invariant_of-result : goal.invariant_of-result
