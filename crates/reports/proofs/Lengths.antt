@@ -17,9 +17,8 @@ use Rattle.reports.specs.declared.report.Picked.{Picked}
 use Rattle.reports.specs.declared.report.Move.{Move}
 use Rattle.reports.specs.Causes.{number_of}
 use Rattle.reports.specs.Shows.{natural, turn_line, way, show_turn, show_event, show_picked, show_move}
-use Rattle.reports.specs.Prints.{width}
 use Rattle.reports.specs.Bounds.{FitsPass, FitsDeed, FitsEvent, FitsPicked, FitsMove, ShortReports}
-use Rattle.reports.proofs.Texts.{text_line_width}
+use Rattle.reports.proofs.Texts.{width, text_line_width}
 
 three : (n : ℕ) → n < 2 ^ 8 → length (decimal n) ≤ 3
 three n h = length-decimal-le 3 n (omega arith) (omega arith) (omega arith)
@@ -59,15 +58,15 @@ module _ (r p : ℕ) (hr : r < 2 ^ 8) (hp : p < 2 ^ 32) where
   turn_length (Panics q) h = turn_short (codes "pn") (natural (number_of q) ∷ []) 4 (omega arith) (omega (arith, three (number_of q) (cause q))) (omega arith)
   turn_length Departs h = turn_short (codes "dp") [] 0 (omega arith) (omega arith) (omega arith)
 
-event_length : (e : Event) → FitsEvent e → length (show_event e) ≤ 39
+pub event_length : (e : Event) → FitsEvent e → length (show_event e) ≤ 39
 event_length (Turn r p d) h = turn_length r p h.0 h.1 d h.2
 event_length (Stall n) h = omega (arith, text_line_width (codes "st") (natural n ∷ []), three n h)
 
-picked_length : (o : Option Picked) → FitsPicked o → length (show_picked o) ≤ 11
+pub picked_length : (o : Option Picked) → FitsPicked o → length (show_picked o) ≤ 11
 picked_length None h = omega arith
 picked_length (Some x) h = omega (arith, text_line_width (codes "PK") (natural x.routine ∷ (natural x.case ∷ [])), three x.routine h.0, three x.case h.1)
 
-move_length : (mark : List ℕ) (o : Option Move) → length mark ≤ 2 → FitsMove o → length (show_move mark o) ≤ 22
+pub move_length : (mark : List ℕ) (o : Option Move) → length mark ≤ 2 → FitsMove o → length (show_move mark o) ≤ 22
 move_length mark None hm h = omega arith
 move_length mark (Some x) hm h =
     omega (arith, text_line_width mark (natural x.channel ∷ (natural x.code ∷ (natural x.routine ∷ []))), three x.channel h.0, ten x.code h.1, three x.routine h.2)

@@ -1,65 +1,77 @@
--- How long the texts are, and one write after another.
-use Rattle.std.proofs.Common.{◌≡◌, ℕ, ◌+◌, ◌≤◌, ltb, leb, List, [], ◌∷◌, ◌++◌, length, drop, Ok, codes, Result, sym, refl, ap, ◌∙◌, add-zero, zero-add, arith}
+-- How long the texts are, and one text after another.
+use Rattle.std.proofs.Common.{true, append-nil, ◌≡◌, ℕ, ◌+◌, ◌≤◌, List, [], ◌∷◌, ◌++◌, length, Ok, Err, codes, Result, sym, refl, ap, ◌∙◌, subst, arith}
 use Rattle.std.proofs.lemmas.List.{append_assoc, length-append}
-use Rattle.std.proofs.lemmas.Bool.{cond-true, cond-false, le-leb, le-ltb}
+use Rattle.std.proofs.lemmas.Grind.{flat_map-append}
+use Rattle.std.proofs.lemmas.Bool.{le-leb, leb-true, cond-true}
 use Rattle.words.specs.declared.refusal.Refusal.{Refusal}
+use Rattle.words.specs.declared.page.Page.{Page}
 use Rattle.words.specs.Words.{Said}
-use Rattle.words.specs.Shows.{show_word, show_fields, written, Wrote, Put}
-use Rattle.words.proofs.Fields.{fields_append}
-use Rattle.words.proofs.Writes.{length_written, wrote_then, wrote_none}
+use Rattle.words.specs.Shows.{show_word, show_field, show_fields}
+use Rattle.words.specs.Pages.{Wrote, Put, fits}
+use Rattle.words.proofs.Pages.{wrote_then}
 use Rattle.reports.specs.declared.report.Pass.{Pass}
 use Rattle.reports.specs.declared.report.Deed.TheVariants.{Passes}
-use Rattle.reports.specs.Shows.{natural, text_line, way, show_turn, joined}
-use Rattle.reports.specs.Prints.{Printed, width, InTurn}
+use Rattle.reports.specs.Shows.{natural, text_line, way, show_turn}
+use Rattle.reports.specs.Prints.{Prints, PrintsShort}
 
-pub fields_width : (ws : List Said) → length (show_fields ws) ≡ width ws
+-- how many bytes the words take, each with its space
+abbrev pub width : List Said → ℕ
+width [] = 0
+width (w ∷ ws) = 1 + length (show_word w) + width ws
+
+fields_width : (ws : List Said) → length (show_fields ws) ≡ width ws
 fields_width [] = refl
 fields_width (w ∷ ws) = omega (arith, length-append (show_word w) (show_fields ws), fields_width ws)
 
-pub marked_width : (mark : List ℕ) (ws : List Said) → length (mark ++ show_fields ws) ≡ length mark + width ws
-marked_width mark ws = length-append mark (show_fields ws) ∙ ap (λ n. length mark + n) (fields_width ws)
-
 pub text_line_width : (mark : List ℕ) (ws : List Said) → length (text_line mark ws) ≡ length mark + width ws + 1
-text_line_width mark ws = length-append (mark ++ show_fields ws) (10 ∷ []) ∙ ap (λ n. n + 1) (marked_width mark ws)
+text_line_width mark ws = omega (arith, length-append (mark ++ show_fields ws) (10 ∷ []), length-append mark (show_fields ws), fields_width ws)
 
 -- a passed case is written in two parts
-pub pass_text : (r p k : ℕ) (w : Pass) (ws : List Said) → ws ≡ natural r ∷ (natural p ∷ (natural k ∷ [])) → (codes "ps" ++ show_fields ws) ++ (show_fields (way w) ++ (10 ∷ [])) ≡ show_turn r p (Passes k w)
-pass_text r p k w ws e =
-    ap (λ l. (codes "ps" ++ show_fields l) ++ (show_fields (way w) ++ (10 ∷ []))) e
-    ∙ sym (append_assoc (codes "ps" ++ show_fields (natural r ∷ (natural p ∷ (natural k ∷ [])))) (show_fields (way w)) (10 ∷ []))
-    ∙ ap (λ l. (codes "ps" ++ l) ++ (10 ∷ [])) (sym (fields_append (natural r ∷ (natural p ∷ (natural k ∷ []))) (way w)))
+pub pass_text : (r p k : ℕ) (w : Pass) (turn : List Said) → turn ≡ natural r ∷ (natural p ∷ (natural k ∷ [])) → (codes "ps" ++ show_fields turn) ++ (show_fields (way w) ++ (10 ∷ [])) ≡ show_turn r p (Passes k w)
+pass_text r p k w turn e =
+    sym (append_assoc (codes "ps" ++ show_fields turn) (show_fields (way w)) (10 ∷ []))
+    ∙ ap (λ l. (codes "ps" ++ l) ++ (10 ∷ [])) (sym (flat_map-append show_field turn (way w)))
+    ∙ ap (λ t. text_line (codes "ps") (t ++ way w)) e
 
--- ---- a write that has room
-module _ (xs : List ℕ) (at : ℕ) (ys xs' : List ℕ) (r : Result ℕ Refusal) (room : at + length ys ≤ length xs) (p : Put xs at ys xs' r) where
-  pub put_ok : r ≡ Ok (at + length ys)
-  put_ok = p.answer ∙ cond-true (leb (at + length ys) (length xs)) _ _ (le-leb (at + length ys) (length xs) room)
+-- ---- on a page that has room
+module _ (p : Page) (ys : List ℕ) (q : Page) (r : Result (Unit {0}) Refusal) where
+  pub prints : Prints p ys q r → p.len + length ys ≤ length p.out.now → (r ≡ Ok tt) × Wrote p ys q
+  prints h room =
+      let f = le-leb (p.len + length ys) (length p.out.now) room in
+      (h.answer f, h.after f)
 
-  pub put_wrote : (n : ℕ) → r ≡ Ok n → Wrote xs at ys xs' n
-  put_wrote n e =
-      let same = put_ok in
-      record { ends = (cc); after = p.after ∙ cond-true (leb (at + length ys) (length xs)) _ _ (le-leb (at + length ys) (length xs) room) }
+  pub no_room : (p.len + 128 ≤ length p.out.now → ⊥) → PrintsShort p ys q r
+  no_room n = record { answer = λ h. absurd (n h); after = λ h. absurd (n h); short = λ h. absurd (n h) }
 
--- ---- texts one after another
-pub turn_ends : (xs : List ℕ) (at : ℕ) (ts : List (List ℕ)) (xs' : List ℕ) (r : ℕ) → InTurn xs at ts xs' r → r ≡ at + length (joined ts)
-turn_ends xs at [] xs' r h = h.1 ∙ sym (add-zero at)
-turn_ends xs at (t ∷ ts) xs' r h = omega (arith, turn_ends (written xs at t) (at + length t) ts xs' r h, length-append t (joined ts))
+pub clash : {r : Result (Unit {0}) Refusal} {e : Refusal} → r ≡ Ok tt → r ≡ Err e → ⊥
+clash a b = let z : ◌≡◌ {A = ℕ} 0 1 = cc in omega arith
 
--- they are one text
-pub turn_wrote : (xs : List ℕ) (at : ℕ) (ts : List (List ℕ)) (xs' : List ℕ) (r : ℕ) → r ≤ length xs → InTurn xs at ts xs' r → Wrote xs at (joined ts) xs' r
-turn_wrote xs at [] xs' r room h =
-    let none = wrote_none xs at (omega (arith, h.1)) in
-    record { ends = h.1 ∙ none.ends; after = h.0 ∙ none.after }
-turn_wrote xs at (t ∷ ts) xs' r room h =
-    let end = turn_ends (written xs at t) (at + length t) ts xs' r h in
-    let fits : at + length t ≤ length xs = omega arith in
-    let same = length_written xs at t fits in
-    wrote_then xs at t (written xs at t) (at + length t) (joined ts) xs' r fits (record { ends = refl; after = refl }) (turn_wrote (written xs at t) (at + length t) ts xs' r (omega arith) h)
+pub put_wrote : (p : Page) (ys : List ℕ) (q : Page) (r : Result (Unit {0}) Refusal) → Put p ys q r → p.len + length ys ≤ length p.out.now → Wrote p ys q
+put_wrote p ys q r h room =
+    let P : List ℕ → Type 0 = λ t. Wrote p t q in
+    subst P (cond-true (fits p ys) ys [] (le-leb (p.len + length ys) (length p.out.now) room)) h.after
 
-pub printed_all : (xs ys xs' : List ℕ) (r : ℕ) → 128 ≤ length xs → Wrote xs 0 ys xs' r → Printed xs ys xs' (Ok r)
-unfolding written
-printed_all xs ys xs' r h w =
-    let t = le-ltb (length xs) 128 h in
-    record {
-      answered = ap Ok (w.ends ∙ zero-add (length ys)) ∙ sym (cond-false (ltb (length xs) 128) _ _ t);
-      after = w.after ∙ ap (λ n. ys ++ drop n xs) (zero-add (length ys)) ∙ sym (cond-false (ltb (length xs) 128) _ _ t);
-    }
+-- ---- one text after another
+pub prints_then : (p : Page) (ys : List ℕ) (q : Page) (r' : Result (Unit {0}) Refusal) (zs : List ℕ) (s : Page) (r : Result (Unit {0}) Refusal) → Put p ys q r' → Prints q zs s r → Prints p (ys ++ zs) s r
+prints_then p ys q r' zs s r a b = record { answer = λ f. (both f).0; after = λ f. (both f).1 }
+  where
+    both : fits p (ys ++ zs) ≡ true → (r ≡ Ok tt) × Wrote p (ys ++ zs) s
+    both f =
+        let room = leb-true (p.len + length (ys ++ zs)) (length p.out.now) f in
+        let sum = length-append ys zs in
+        let one = put_wrote p ys q r' a (omega arith) in
+        let two = prints q zs s r b (omega arith) in
+        (two.0, wrote_then p ys q zs s one two.1)
+
+module _ (p : Page) (a : List ℕ) (q : Page) (b : List ℕ) (r : Page) (c : List ℕ) (s : Page) (d : List ℕ) (t : Page) (w x y z : Result (Unit {0}) Refusal) where
+  pub in_turn : Prints p a q w → Prints q b r x → Prints r c s y → Prints s d t z → length a + length b + length c + length d ≤ 128 → PrintsShort p (a ++ (b ++ (c ++ (d ++ [])))) t z
+  in_turn f g h i l = record { answer = λ room. (all room).0; after = λ room. (all room).1; short = λ room. simp length-append (omega arith) }
+    where
+      all : p.len + 128 ≤ length p.out.now → (z ≡ Ok tt) × Wrote p (a ++ (b ++ (c ++ (d ++ [])))) t
+      all room =
+          let one = (prints p a q w f (omega arith)).1 in
+          let two = (prints q b r x g (omega arith)).1 in
+          let three = (prints r c s y h (omega arith)).1 in
+          let four = prints s d t z i (omega arith) in
+          let tail : Wrote s (d ++ []) t = rw append-nil four.1 in
+          (four.0, wrote_then p a q _ t one (wrote_then q b r _ t two (wrote_then r c s _ t three tail)))

@@ -4,7 +4,6 @@
 mod laws;
 mod printing;
 mod report;
-mod writing;
 
 pub use laws::{examples_stand, reports_are_short};
 pub use report::{Deed, Event, Move, Panic, Pass, Picked, Report};

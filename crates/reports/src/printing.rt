@@ -1,89 +1,113 @@
 // Printing a report.
-ghost use Rattle.std.specs.Prelude.{◌+◌, ◌≤◌, [], ◌∷◌, ◌++◌, length, IfOk};
-ghost use Rattle.words.specs.Shows.{show_fields, Wrote};
-ghost use Rattle.reports.specs.Shows.{way, show_turn, show_event, show_picked, show_move, records, show_report};
-ghost use Rattle.reports.specs.Prints.{Printed, InTurn};
+ghost use Rattle.std.specs.Prelude.{◌≡◌, ◌^◌, ◌<◌, ◌≤◌, ◌++◌, [], ◌∷◌, map, IfOk};
+ghost use Rattle.words.specs.Shows.{show_fields, field_said};
+ghost use Rattle.reports.specs.Shows.{natural, text_line, way, show_turn, show_event, show_picked, show_move, show_report};
+ghost use Rattle.std.specs.Int.Signed.{mag};
+ghost use Rattle.words.specs.Words.{number};
+ghost use Rattle.reports.specs.Bounds.{FitsPass, FitsDeed, FitsEvent, FitsPicked, FitsMove};
+ghost use Rattle.reports.specs.Prints.{Printed, Prints, PrintsShort};
 
 use crate::report::{Deed, Event, Move, Pass, Picked, Report};
-use crate::writing::{integer, put, put_line, small, wide};
-use words::Refusal;
+use words::{Field, Page, Refusal};
 
-// Each of these writes at `at`, where there is room, and answers where what it wrote ends.
-fn put_way(out: &mut [u8], at: usize, pass: Pass) -> usize
-    requires { at + 18 ≤ length out.old }
-    ensures wrote { Wrote out.old at (show_fields (way pass) ++ (10 ∷ [])) out.new result }
-    ensures short { result ≤ at + 18 }
+// The words of numbers, and that these fit their types.
+fn small(n: u8) -> Field
+    ensures said { field_said result ≡ natural n }
+    ensures fits { n < 2 ^ 8 }
+{
+    Field::Natural(u32::from(n))
+}
+
+fn wide(n: u32) -> Field
+    ensures said { field_said result ≡ natural n }
+    ensures fits { n < 2 ^ 32 }
+{
+    Field::Natural(n)
+}
+
+fn integer(v: i32) -> Field
+    ensures said { field_said result ≡ number v }
+    ensures fits { mag v < 2 ^ 31 }
+{
+    Field::Integer(v)
+}
+
+// Each of these writes its text next, where there is room for it.
+fn put_line(page: &mut Page, mark: &[u8], fields: &[Field]) -> Result<(), Refusal>
+    ensures { Prints page.old (text_line mark.now (map field_said fields.now)) page.new result }
+{
+    page.put_fields(mark, fields)?;
+    page.end_line()
+}
+
+fn put_way(page: &mut Page, pass: Pass) -> Result<(), Refusal>
+    ensures printed { Prints page.old (show_fields (way pass) ++ (10 ∷ [])) page.new result }
+    ensures fits { FitsPass pass }
 {
     match pass {
-        Pass::Sent(channel, code) => put_line(out, at, b" s", &[small(channel), wide(code)]),
-        Pass::Received(channel, code) => put_line(out, at, b" r", &[small(channel), wide(code)]),
-        Pass::Drained(channel) => put_line(out, at, b" z", &[small(channel)]),
-        Pass::Default => put_line(out, at, b" d", &[]),
+        Pass::Sent(channel, code) => put_line(page, b" s", &[small(channel), wide(code)]),
+        Pass::Received(channel, code) => put_line(page, b" r", &[small(channel), wide(code)]),
+        Pass::Drained(channel) => put_line(page, b" z", &[small(channel)]),
+        Pass::Default => put_line(page, b" d", &[]),
     }
 }
 
-fn put_pass(out: &mut [u8], at: usize, routine: u8, line: u32, case: u8, pass: Pass) -> usize
-    requires { at + 39 ≤ length out.old }
-    ensures wrote { Wrote out.old at (show_turn routine line (Deed.Passes case pass)) out.new result }
-    ensures short { result ≤ at + 39 }
+fn put_pass(page: &mut Page, routine: u8, line: u32, case: u8, pass: Pass) -> Result<(), Refusal>
+    ensures printed { Prints page.old (show_turn routine line (Deed.Passes case pass)) page.new result }
+    ensures fits { FitsDeed (Deed.Passes case pass) }
 {
-    let at = put(out, at, b"ps", &[small(routine), wide(line), small(case)]);
-    put_way(out, at, pass)
+    page.put_fields(b"ps", &[small(routine), wide(line), small(case)])?;
+    put_way(page, pass)
 }
 
-fn put_turn(out: &mut [u8], at: usize, routine: u8, line: u32, deed: Deed) -> usize
-    requires { at + 39 ≤ length out.old }
-    ensures wrote { Wrote out.old at (show_turn routine line deed) out.new result }
-    ensures short { result ≤ at + 39 }
+fn put_turn(page: &mut Page, routine: u8, line: u32, deed: Deed) -> Result<(), Refusal>
+    ensures printed { Prints page.old (show_turn routine line deed) page.new result }
+    ensures fits { FitsEvent (Event.Turn routine line deed) }
 {
     let r = small(routine);
     let p = wide(line);
     match deed {
-        Deed::Plain => put_line(out, at, b"pl", &[r, p]),
-        Deed::Waits => put_line(out, at, b"wt", &[r, p]),
-        Deed::Passes(case, pass) => put_pass(out, at, routine, line, case, pass),
-        Deed::Closes(channel, n) => put_line(out, at, b"cl", &[r, p, small(channel), small(n)]),
-        Deed::Prints(value) => put_line(out, at, b"sy", &[r, p, integer(value)]),
-        Deed::Starts(n) => put_line(out, at, b"go", &[r, p, small(n)]),
-        Deed::Ends => put_line(out, at, b"en", &[r, p]),
-        Deed::Finishes => put_line(out, at, b"fi", &[r, p]),
-        Deed::Panics(cause) => put_line(out, at, b"pn", &[r, p, small(cause.number())]),
-        Deed::Departs => put_line(out, at, b"dp", &[r, p]),
+        Deed::Plain => put_line(page, b"pl", &[r, p]),
+        Deed::Waits => put_line(page, b"wt", &[r, p]),
+        Deed::Passes(case, pass) => put_pass(page, routine, line, case, pass),
+        Deed::Closes(channel, n) => put_line(page, b"cl", &[r, p, small(channel), small(n)]),
+        Deed::Prints(value) => put_line(page, b"sy", &[r, p, integer(value)]),
+        Deed::Starts(n) => put_line(page, b"go", &[r, p, small(n)]),
+        Deed::Ends => put_line(page, b"en", &[r, p]),
+        Deed::Finishes => put_line(page, b"fi", &[r, p]),
+        Deed::Panics(cause) => put_line(page, b"pn", &[r, p, small(cause.number())]),
+        Deed::Departs => put_line(page, b"dp", &[r, p]),
     }
 }
 
-fn put_event(out: &mut [u8], at: usize, event: Event) -> usize
-    requires { at + 39 ≤ length out.old }
-    ensures wrote { Wrote out.old at (show_event event) out.new result }
-    ensures short { result ≤ at + 39 }
+fn put_event(page: &mut Page, event: Event) -> Result<(), Refusal>
+    ensures printed { Prints page.old (show_event event) page.new result }
+    ensures fits { FitsEvent event }
 {
     match event {
-        Event::Turn(routine, line, deed) => put_turn(out, at, routine, line, deed),
-        Event::Stall(n) => put_line(out, at, b"st", &[small(n)]),
+        Event::Turn(routine, line, deed) => put_turn(page, routine, line, deed),
+        Event::Stall(n) => put_line(page, b"st", &[small(n)]),
     }
 }
 
-fn put_picked(out: &mut [u8], at: usize, picked: Option<Picked>) -> usize
-    requires { at + 11 ≤ length out.old }
-    ensures wrote { Wrote out.old at (show_picked picked) out.new result }
-    ensures short { result ≤ at + 11 }
+fn put_picked(page: &mut Page, picked: Option<Picked>) -> Result<(), Refusal>
+    ensures printed { Prints page.old (show_picked picked) page.new result }
+    ensures fits { FitsPicked picked }
 {
     match picked {
-        None => at,
-        Some(x) => put_line(out, at, b"PK", &[small(x.routine), small(x.case)]),
+        None => Ok(()),
+        Some(x) => put_line(page, b"PK", &[small(x.routine), small(x.case)]),
     }
 }
 
-fn put_move(out: &mut [u8], at: usize, mark: &[u8; 2], moved: Option<Move>) -> usize
-    requires { at + 22 ≤ length out.old }
-    ensures wrote { Wrote out.old at (show_move mark.now moved) out.new result }
-    ensures short { result ≤ at + 22 }
+fn put_move(page: &mut Page, mark: &[u8; 2], moved: Option<Move>) -> Result<(), Refusal>
+    ensures printed { Prints page.old (show_move mark.now moved) page.new result }
+    ensures fits { FitsMove moved }
 {
     match moved {
-        None => at,
+        None => Ok(()),
         Some(x) => put_line(
-            out,
-            at,
+            page,
             mark,
             &[small(x.channel), wide(x.code), small(x.routine)],
         ),
@@ -91,16 +115,13 @@ fn put_move(out: &mut [u8], at: usize, mark: &[u8; 2], moved: Option<Move>) -> u
 }
 
 impl Report {
-    // The same for all of it, from the front on.
-    fn put_records(&self, out: &mut [u8]) -> usize
-        requires { 128 ≤ length out.old }
-        ensures wrote { InTurn out.old 0 (records self.now) out.new result }
-        ensures short { result ≤ 128 }
+    fn put(&self, page: &mut Page) -> Result<(), Refusal>
+        ensures { PrintsShort page.old (show_report self.now) page.new result }
     {
-        let at = put_event(out, 0, self.event);
-        let at = put_picked(out, at, self.picked);
-        let at = put_move(out, at, b"ac", self.accepted);
-        put_move(out, at, b"rv", self.received)
+        put_event(page, self.event)?;
+        put_picked(page, self.picked)?;
+        put_move(page, b"ac", self.accepted)?;
+        put_move(page, b"rv", self.received)
     }
 
     // Writes the report's text at the front of `out` and answers its length; refuses an `out` of fewer than 128 bytes,
@@ -112,6 +133,8 @@ impl Report {
         if out.len() < 128 {
             return Err(Refusal::Small);
         }
-        Ok(self.put_records(out))
+        let mut page = Page::new(out);
+        self.put(&mut page)?;
+        Ok(page.len())
     }
 }

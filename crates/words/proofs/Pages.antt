@@ -1,8 +1,8 @@
 -- One write after another.
-use Rattle.std.proofs.Common.{◌≡◌, List, [], ◌++◌, ℕ, length, take, drop, sym, refl, ap, ◌∙◌, add-zero, arith}
-use Rattle.std.proofs.lemmas.List.{append_assoc, append-nil, length-append, drop-drop}
+use Rattle.std.proofs.Common.{◌≡◌, MutBor, List, [], ◌++◌, ℕ, length, take, drop, sym, refl, ap, ◌∙◌, add-zero, arith}
+use Rattle.std.proofs.lemmas.List.{append_assoc, append-nil, length-append, take-append-drop, drop-drop}
 use Rattle.words.specs.declared.page.Page.{Page}
-use Rattle.words.specs.Pages.{Wrote}
+use Rattle.words.specs.Pages.{Begins, Wrote}
 
 pub wrote_none : (p : Page) → Wrote p [] p
 wrote_none p = record {
@@ -26,3 +26,13 @@ wrote_then p ys q zs r a b = record {
     rest : drop r.len r.out.now ≡ drop r.len p.out.now
     rest = b.rest ∙ ap (λ n. drop n q.out.now) b.len ∙ sym (drop-drop (length zs) q.len q.out.now) ∙ ap (drop (length zs)) a.rest
         ∙ drop-drop (length zs) q.len p.out.now ∙ ap (λ n. drop n p.out.now) (sym b.len)
+
+-- a buffer on which one text was written, from the start
+pub whole : (out : MutBor (List ℕ)) (p : Page) (ys : List ℕ) (q : Page) → Begins out p → Wrote p ys q → (q.len ≡ length ys) × (q.out.now ≡ ys ++ drop (length ys) out.now)
+whole out p ys q b w =
+    let len : q.len ≡ length ys = omega (arith, b.len, w.len) in (
+      len,
+      sym (take-append-drop q.len q.out.now)
+          ∙ ap (λ l. l ++ drop q.len q.out.now) (w.front ∙ ap (λ n. take n p.out.now ++ ys) b.len)
+          ∙ ap (λ l. ys ++ l) (w.rest ∙ ap (λ n. drop n p.out.now) len ∙ ap (drop (length ys)) b.now),
+    )

@@ -3,7 +3,7 @@ use Rattle.std.proofs.Common.{◌≡◌, ℕ, zero, suc, ◌<◌, true, one-add,
 use Rattle.std.specs.Char.{is_ascii_lowercase}
 use Rattle.std.specs.List.{AllByRecursion, position_or_len}
 use Rattle.std.proofs.lemmas.List.Recursion.{is_position_or_len}
-use Rattle.std.proofs.lemmas.List.{take_at, drop-replicate}
+use Rattle.std.proofs.lemmas.List.{take_at, take_all, drop_all, drop-replicate}
 use Rattle.std.proofs.lemmas.Bool.{and_parts, cond-true, cond-false, eq-eqb, ne_eqb}
 use Rattle.std.proofs.lemmas.Bool.Decides.{nat_tests}
 use Rattle.words.specs.Names.{lowers}
@@ -30,6 +30,9 @@ module _ (p : ℕ) where
   -- what stands before a separator is cut off there
   pub front : (t r : List ℕ) → Free t → Stops r → take (span p (t ++ r)) (t ++ r) ≡ t
   front t r u s = take_at t r (span p (t ++ r)) (sym (span_front t r u s))
+
+-- what a cut needs
+pub ruleset cuts = (span_position, take_all, drop_all)
 
 -- no letter is a zero
 pub free_lowers : (p : ℕ) (t : List ℕ) → p < 97 → lowers t ≡ true → Free p t

@@ -9,6 +9,7 @@ use crate::refusal::Refusal;
 // The bytes of `out`, of which the first `len` are written. Not std's `Cursor<&mut [u8]>`: its `write` does not say that
 // the reference stays the same, so its caller would learn nothing of `out`. Nor `write!`: what it ensures holds where
 // it succeeds, and a line that does not fit has to leave the page as it was.
+#[derive(Drop)]
 pub struct Page<'a> {
     out: &'a mut [u8],
     len: usize,

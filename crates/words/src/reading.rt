@@ -23,6 +23,7 @@ fn first(text: &[u8], separator: u8) -> Option<usize>
 }
 
 // What stands before the first separator, and what is left from it on.
+#[tactic(auto, using(crate::proofs::Spans::cuts))]
 pub fn cut(text: &[u8], separator: u8) -> (&[u8], &[u8])
     ensures front { result.0.now ≡ take (span separator text.now) text.now }
     ensures back { result.1.now ≡ drop (span separator text.now) text.now }
