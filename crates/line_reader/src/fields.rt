@@ -41,7 +41,7 @@ impl<'a> Fields<'a> {
         }
     }
 
-    // What is made of them.
+    // What `make` makes of them.
     pub(crate) fn make<K: Kind, F: FnOnce(K::Out) -> Line<Name>>(
         self,
         make: F,

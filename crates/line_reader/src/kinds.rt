@@ -51,6 +51,7 @@ impl Kind for Handle {
     }
 }
 
+// A number.
 impl Kind for i32 {
     type Out = i32;
 
@@ -64,7 +65,7 @@ impl Kind for i32 {
     }
 }
 
-// A number without a minus.
+// A number without a minus: a capacity, a target, or how many cases.
 impl Kind for u32 {
     type Out = u32;
 
@@ -78,6 +79,7 @@ impl Kind for u32 {
     }
 }
 
+// A name, held by value.
 impl Kind for Name {
     type Out = Name;
 
