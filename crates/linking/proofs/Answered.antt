@@ -10,7 +10,7 @@ use Rattle.linking.specs.Programs.{Program}
 use Rattle.linking.specs.Links.{link_script}
 use Rattle.linking.specs.Sound.{Sound}
 use Rattle.linking.specs.Meaning.{StandsFor}
-use Rattle.linking.specs.Stages.{LinksScript}
+use Rattle.linking.specs.Stages.{Stopped}
 use Rattle.linking.specs.Answers.{NoneFor}
 use Rattle.linking.proofs.LinksOnly.{links_only}
 use Rattle.linking.proofs.AllParts.{links_all}
@@ -23,6 +23,6 @@ no_answer : {f : Fault} {p : Program} → ◌≡◌ {A = Result Program Fault} (
 no_answer e = let z : ◌≡◌ {A = ℕ} 0 1 = cc in omega arith
 
 -- and where a fault is given there is none
-pub none_for : (ls : List (Line (List ℕ))) (s : Stop) → ∥ Kept ls ∥₁ → LinksScript (link_script ls) (Err s) → NoneFor ls s
+pub none_for : (ls : List (Line (List ℕ))) (s : Stop) → ∥ Kept ls ∥₁ → Stopped (link_script ls) s → NoneFor ls s
 none_for ls (Faulty f) k e = λ p st so. ∥∥₁_elim k (λ a b. absurd a) (λ kept. no_answer (sym e ∙ links_all ls p kept st so))
 none_for ls Memory k e = tt

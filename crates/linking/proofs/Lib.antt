@@ -1,7 +1,4 @@
-pub mod Gather
-pub mod Reach
 pub mod Stages
-pub mod Spelling
 pub mod AllNames
 pub mod AllLines
 pub mod AllParts

@@ -11,20 +11,16 @@ use Rattle.linking.specs.Programs.{Program}
 use Rattle.linking.specs.Links.{link_script}
 use Rattle.linking.specs.Sound.{Sound}
 use Rattle.linking.specs.Meaning.{StandsFor}
-use Rattle.linking.specs.Stages.{program_of}
+use Rattle.linking.specs.Stages.{program_of, Stopped}
 
 -- the program of a linked script
 abbrev pub linked_program : Linked → Program
 linked_program l = program_of l.tables
 
 -- the script with its program, or the script again and its fault; of want of memory nothing more is said
-abbrev pub Stopped : Read → Stop → Type 0
-Stopped s (Faulty f) = link_script (script_of s) ≡ Err f
-Stopped s Memory = Unit {0}
-
 abbrev pub Links : Read → Result Linked Unlinked → Type 0
 Links s (Ok l) = (l.script ≡ s) × (link_script (script_of s) ≡ Ok (linked_program l))
-Links s (Err u) = (u.script ≡ s) × Stopped s u.stop
+Links s (Err u) = (u.script ≡ s) × Stopped (link_script (script_of s)) u.stop
 
 -- a program that stands for the script and has what running needs was made; a fault is given only if there is none
 abbrev pub NoneFor : List (Line (List ℕ)) → Stop → Type 0

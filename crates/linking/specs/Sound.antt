@@ -7,8 +7,6 @@ use Rattle.lines.specs.declared.line.Operand.{Operand}
 use Rattle.lines.specs.declared.line.Operand.TheVariants.{Named, Held}
 use Rattle.script_laws.specs.Lawful.{at_kind}
 use Rattle.linking.specs.declared.declared.Declared.{Declared}
-use Rattle.linking.specs.declared.symbols.Wanted.{Wanted}
-use Rattle.linking.specs.declared.symbols.Wanted.TheVariants.{AValue, AHandle, Either}
 use Rattle.linking.specs.declared.operation.Operation.{Operation}
 use Rattle.linking.specs.declared.operation.Operation.TheVariants.{Set, Add, Sub, Jump, JumpNegative, Hold, Clear, Alone, Select, Case, Default, Close, Start, Print}
 use Rattle.linking.specs.declared.operation.Exchange.{Exchange}
@@ -70,18 +68,18 @@ leads (Print v) = None
 
 -- ---- every number in range
 -- there is a channel of that number, of the kind that is wanted
-abbrev pub Uses : List Declared → Wanted → ℕ → Type 0
+abbrev pub Uses : List Declared → Option Kind → ℕ → Type 0
 Uses ds w c = suited w (slice_get ds c) ≡ true
 
-abbrev pub UsesOperand : List Declared → Wanted → Operand ℕ → Type 0
+abbrev pub UsesOperand : List Declared → Option Kind → Operand ℕ → Type 0
 UsesOperand ds w (Named c) = Uses ds w c
 UsesOperand ds w (Held h) = h < 4
 
 abbrev pub SoundExchange : List Declared → Exchange ℕ → Type 0
-SoundExchange ds (Send o v) = UsesOperand ds AValue o × (v < 8)
-SoundExchange ds (Receive o v w) = UsesOperand ds AValue o × (v < 8) × (w < 8)
-SoundExchange ds (SendHandle c h) = Uses ds AHandle c × (h < 4)
-SoundExchange ds (ReceiveHandle c h w) = Uses ds AHandle c × (h < 4) × (w < 8)
+SoundExchange ds (Send o v) = UsesOperand ds (Some Value) o × (v < 8)
+SoundExchange ds (Receive o v w) = UsesOperand ds (Some Value) o × (v < 8) × (w < 8)
+SoundExchange ds (SendHandle c h) = Uses ds (Some Handle) c × (h < 4)
+SoundExchange ds (ReceiveHandle c h w) = Uses ds (Some Handle) c × (h < 4) × (w < 8)
 
 -- 8 value registers and 4 handle registers, 8 cases, and so many bodies
 abbrev pub SoundOperation : List Declared → ℕ → Operation → Type 0
@@ -90,13 +88,13 @@ SoundOperation ds bodies (Add v w) = (v < 8) × (w < 8)
 SoundOperation ds bodies (Sub v w) = (v < 8) × (w < 8)
 SoundOperation ds bodies (Jump t) = Unit {0}
 SoundOperation ds bodies (JumpNegative v t) = v < 8
-SoundOperation ds bodies (Hold h c) = (h < 4) × Uses ds AValue c
+SoundOperation ds bodies (Hold h c) = (h < 4) × Uses ds (Some Value) c
 SoundOperation ds bodies (Clear h) = h < 4
 SoundOperation ds bodies (Alone e) = SoundExchange ds e
 SoundOperation ds bodies (Select n) = n ≤ 8
 SoundOperation ds bodies (Case e t) = SoundExchange ds e
 SoundOperation ds bodies (Default t) = Unit {0}
-SoundOperation ds bodies (Close o) = UsesOperand ds Either o
+SoundOperation ds bodies (Close o) = UsesOperand ds None o
 SoundOperation ds bodies (Start b) = b < bodies
 SoundOperation ds bodies (Print v) = v < 8
 
