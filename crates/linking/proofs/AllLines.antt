@@ -20,52 +20,8 @@ use Rattle.linking.specs.Naming.{Known, channel, operand, operation}
 use Rattle.linking.specs.Parts.{target, case_line, wild}
 use Rattle.linking.specs.Links.{both, settled, link_line, link_lines}
 use Rattle.linking.specs.Sound.{is_case, leads, Uses, UsesOperand, SoundExchange, SoundOperation, a_case, Lands}
+use Rattle.linking.proofs.Named.{leads_named, case_named}
 use Rattle.linking.specs.Meaning.{name_at, named_operand, named}
-
--- ---- what a line with its names put back has from its operation
-leads_named : (k : Known) (o : Operation) → target (named k o) ≡ leads o
-leads_named k (Set v n) = refl
-leads_named k (Add v w) = refl
-leads_named k (Sub v w) = refl
-leads_named k (Jump t) = refl
-leads_named k (JumpNegative v t) = refl
-leads_named k (Hold h c) = refl
-leads_named k (Clear h) = refl
-leads_named k (Alone (Send o v)) = refl
-leads_named k (Alone (Receive o v w)) = refl
-leads_named k (Alone (SendHandle c h)) = refl
-leads_named k (Alone (ReceiveHandle c h w)) = refl
-leads_named k (Select n) = refl
-leads_named k (Case (Send o v) t) = refl
-leads_named k (Case (Receive o v w) t) = refl
-leads_named k (Case (SendHandle c h) t) = refl
-leads_named k (Case (ReceiveHandle c h w) t) = refl
-leads_named k (Default t) = refl
-leads_named k (Close o) = refl
-leads_named k (Start b) = refl
-leads_named k (Print v) = refl
-
-case_named : (k : Known) (o : Operation) → law.is_case (role (named k o)) ≡ is_case o
-case_named k (Set v n) = refl
-case_named k (Add v w) = refl
-case_named k (Sub v w) = refl
-case_named k (Jump t) = refl
-case_named k (JumpNegative v t) = refl
-case_named k (Hold h c) = refl
-case_named k (Clear h) = refl
-case_named k (Alone (Send o v)) = refl
-case_named k (Alone (Receive o v w)) = refl
-case_named k (Alone (SendHandle c h)) = refl
-case_named k (Alone (ReceiveHandle c h w)) = refl
-case_named k (Select n) = refl
-case_named k (Case (Send o v) t) = refl
-case_named k (Case (Receive o v w) t) = refl
-case_named k (Case (SendHandle c h) t) = refl
-case_named k (Case (ReceiveHandle c h w) t) = refl
-case_named k (Default t) = refl
-case_named k (Close o) = refl
-case_named k (Start b) = refl
-case_named k (Print v) = refl
 
 -- ---- a target that lands is not wild
 case_mapped : (k : Known) (o : Option Operation) → case_line (option_map (named k) o) ≡ a_case o
@@ -104,20 +60,12 @@ module _ (k : Known) (bodies : ℕ) (found : ChannelsFound k) (opened : BodiesFo
   case_back (ReceiveHandle c h w) t s = ap (λ x. option_map (λ f. Case f t) (option_map (λ d. ReceiveHandle d h w) x)) (found (Some Handle) c s.0)
 
   operation_back : (o : Operation) → SoundOperation k.channels bodies o → operation k (named k o) ≡ Some o
-  operation_back (Set v n) s = refl
-  operation_back (Add v w) s = refl
-  operation_back (Sub v w) s = refl
-  operation_back (Jump t) s = refl
-  operation_back (JumpNegative v t) s = refl
   operation_back (Hold h c) s = ap (option_map (λ d. Hold h d)) (found (Some Value) c s.1)
-  operation_back (Clear h) s = refl
   operation_back (Alone e) s = alone_back e s
-  operation_back (Select n) s = refl
   operation_back (Case e t) s = case_back e t s
-  operation_back (Default t) s = refl
   operation_back (Close o) s = ap (option_map Close) (operand_back None o s)
   operation_back (Start b) s = ap (option_map Start) (opened b s)
-  operation_back (Print v) s = refl
+  operation_back _ s = refl
 
   -- ---- lines of the body that all those operations are
   module _ (all : List Operation) where

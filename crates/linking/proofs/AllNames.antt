@@ -24,6 +24,7 @@ use Rattle.linking.specs.Naming.{declared, named_channels, known, channels, chan
 use Rattle.linking.specs.Parts.{own, parts}
 use Rattle.linking.specs.Sound.{Uses}
 use Rattle.linking.specs.Meaning.{name_at}
+use Rattle.linking.proofs.Totals.{names_counted, parts_counted}
 
 -- ---- where a name stands
 differ : (x y : List ℕ) → (x ≡ y → ⊥) → bytes_eq x y ≡ false
@@ -52,23 +53,15 @@ channels_listed (l ∷ ls) = ap (λ xs. channel_name (role l) ++ xs) (channels_l
   where
     by : (r : Role (List ℕ)) (cs : List Channel) → channel_name r ++ map (λ c. c.name) cs ≡ map (λ c. c.name) (cons_option (declared r) cs)
     by (Declares k x n) cs = refl
-    by (Opens x) cs = refl
-    by (Selects n) cs = refl
-    by Acts cs = refl
-    by Case cs = refl
-    by Default cs = refl
+    by _ cs = refl
 
 bodies_listed : (ls : List (Line (List ℕ))) → flat_map body_name (roles ls) ≡ body_names ls
 bodies_listed [] = refl
 bodies_listed (l ∷ ls) = ap (λ xs. body_name (role l) ++ xs) (bodies_listed ls) ∙ by (role l) (body_names ls)
   where
     by : (r : Role (List ℕ)) (xs : List (List ℕ)) → body_name r ++ xs ≡ cons_option (opens r) xs
-    by (Declares k x n) xs = refl
     by (Opens x) xs = refl
-    by (Selects n) xs = refl
-    by Acts xs = refl
-    by Case xs = refl
-    by Default xs = refl
+    by _ xs = refl
 
 pub channels_distinct : (ls : List (Line (List ℕ))) → Kept ls → Distinct (channel_names ls)
 channels_distinct ls k = subst Distinct (channels_listed ls) (admitted_lawful ls k.admitted).channels_differ
@@ -79,18 +72,6 @@ bodies_distinct ls k = subst Distinct (bodies_listed ls) (admitted_lawful ls k.a
 -- ---- as many names as what they name
 pub channels_counted : (ls : List (Line (List ℕ))) → length (channels ls) ≡ length (channel_names ls)
 channels_counted ls = length-map (named_channels ls) (λ c. c.declared) ∙ sym (length-map (named_channels ls) (λ c. c.name))
-
-pub bodies_counted : (n : ℕ) (ls : List (Line (List ℕ))) → length (parts n ls) ≡ length (body_names ls)
-bodies_counted n [] = refl
-bodies_counted n (l ∷ ls) = by (role l) (bodies_counted (n + 1) ls)
-  where
-    by : (r : Role (List ℕ)) → length (parts (n + 1) ls) ≡ length (body_names ls) → length (cond (is_opens r) (record { line = n; lines = own ls } ∷ parts (n + 1) ls) (parts (n + 1) ls)) ≡ length (cons_option (opens r) (body_names ls))
-    by (Declares k x c) more = more
-    by (Opens x) more = ap suc more
-    by (Selects c) more = more
-    by Acts more = more
-    by Case more = more
-    by Default more = more
 
 -- ---- a number that can be used goes by its name to that number
 used_below : (w : Option Kind) (ds : List Declared) (c : ℕ) → Uses ds w c → c < length ds
@@ -107,4 +88,4 @@ module _ (ls : List (Line (List ℕ))) (kept : Kept ls) where
       ap (of_kind w (channels ls)) (place_at (channel_names ls) c (channels_distinct ls kept) below) ∙ cond-true (suited w (slice_get (channels ls) c)) _ _ u
 
   pub body_found : (b : ℕ) → b < length (parts 1 ls) → place (name_at (body_names ls) b) (body_names ls) ≡ Some b
-  body_found b h = place_at (body_names ls) b (bodies_distinct ls kept) (omega (arith, bodies_counted 1 ls))
+  body_found b h = place_at (body_names ls) b (bodies_distinct ls kept) (omega (arith, parts_counted 1 ls, names_counted ls))

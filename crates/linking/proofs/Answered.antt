@@ -19,10 +19,7 @@ use Rattle.linking.proofs.AllParts.{links_all}
 pub made_exactly : (ls : List (Line (List ℕ))) (p : Program) → ∥ Kept ls ∥₁ → link_script ls ≡ Ok p → ∥ StandsFor ls p × Sound p ∥₁
 made_exactly ls p k e = ∥∥₁_map k (λ kept. links_only ls p kept e)
 
-no_answer : {f : Fault} {p : Program} → ◌≡◌ {A = Result Program Fault} (Err f) (Ok p) → ⊥
-no_answer e = let z : ◌≡◌ {A = ℕ} 0 1 = cc in omega arith
-
 -- and where a fault is given there is none
 pub none_for : (ls : List (Line (List ℕ))) (s : Stop) → ∥ Kept ls ∥₁ → Stopped (link_script ls) s → NoneFor ls s
-none_for ls (Faulty f) k e = λ p st so. ∥∥₁_elim k (λ a b. absurd a) (λ kept. no_answer (sym e ∙ links_all ls p kept st so))
+none_for ls (Faulty f) k e = λ p st so. ∥∥₁_elim k (λ a b. absurd a) (λ kept. let made : link_script ls ≡ Ok p = links_all ls p kept st so in cc)
 none_for ls Memory k e = tt

@@ -4,6 +4,7 @@ pub mod AllLines
 pub mod AllParts
 pub mod Found
 pub mod Paired
+pub mod Named
 pub mod Meant
 pub mod Inverted
 pub mod Within

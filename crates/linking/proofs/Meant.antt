@@ -46,12 +46,9 @@ module _ (k : Known) where
       let P : Operand ℕ → Type 0 = λ o. (named_operand k o ≡ Held h) × (h < 4 → UsesOperand k.channels w o) in
       subst P (same_Some _ _ e) (refl, λ s. s)
 
-  -- ---- what a line stands for: it comes back by its names, is the same to those around it, and its numbers are in range
+  -- ---- what a line stands for: it comes back by its names, and its numbers are in range
   pub record Meant (l : Line (List ℕ)) (o : Operation) : Type 0 where
     pub back : named k o ≡ l
-    pub case : is_case o ≡ lawful.is_case (role l)
-    pub select : asks o ≡ lawful.asks (role l)
-    pub leads_on : leads o ≡ target l
     pub in_range : Good l → lawful.asks (role l) ≤ 8 → SoundOperation k.channels (length k.bodies) o
 
   -- an operation that is made from an operand, or from a channel's name
@@ -70,51 +67,49 @@ module _ (k : Known) where
       subst P (ap g n.2 ∙ m.2) (make n.0 b.0 b.1)
 
   pub meant : (l : Line (List ℕ)) (o : Operation) → operation k l ≡ Some o → Meant l o
-  meant (line.Set v n) o e = subst (Meant (line.Set v n)) (same_Some _ _ e) (record { back = refl; case = refl; select = refl; leads_on = refl; in_range = λ g h. g.0 })
-  meant (line.Add v w) o e = subst (Meant (line.Add v w)) (same_Some _ _ e) (record { back = refl; case = refl; select = refl; leads_on = refl; in_range = λ g h. g })
-  meant (line.Sub v w) o e = subst (Meant (line.Sub v w)) (same_Some _ _ e) (record { back = refl; case = refl; select = refl; leads_on = refl; in_range = λ g h. g })
-  meant (line.Jump t) o e = subst (Meant (line.Jump t)) (same_Some _ _ e) (record { back = refl; case = refl; select = refl; leads_on = refl; in_range = λ g h. tt })
-  meant (line.JumpNegative v t) o e = subst (Meant (line.JumpNegative v t)) (same_Some _ _ e) (record { back = refl; case = refl; select = refl; leads_on = refl; in_range = λ g h. g.0 })
+  meant (line.Set v n) o e = subst (Meant (line.Set v n)) (same_Some _ _ e) (record { back = refl; in_range = λ g h. g.0 })
+  meant (line.Add v w) o e = subst (Meant (line.Add v w)) (same_Some _ _ e) (record { back = refl; in_range = λ g h. g })
+  meant (line.Sub v w) o e = subst (Meant (line.Sub v w)) (same_Some _ _ e) (record { back = refl; in_range = λ g h. g })
+  meant (line.Jump t) o e = subst (Meant (line.Jump t)) (same_Some _ _ e) (record { back = refl; in_range = λ g h. tt })
+  meant (line.JumpNegative v t) o e = subst (Meant (line.JumpNegative v t)) (same_Some _ _ e) (record { back = refl; in_range = λ g h. g.0 })
   meant (line.Hold h x) o e =
       let m = mapped_back (λ c. Hold h c) (channel k (Some Value) x) o e in
       let b = channel_back (Some Value) x m.0 m.1 in
-      subst (Meant (line.Hold h x)) m.2 (record { back = ap (line.Hold h) b.0; case = refl; select = refl; leads_on = refl; in_range = λ g s. (g.0, b.1) })
-  meant (line.Clear h) o e = subst (Meant (line.Clear h)) (same_Some _ _ e) (record { back = refl; case = refl; select = refl; leads_on = refl; in_range = λ g s. g })
+      subst (Meant (line.Hold h x)) m.2 (record { back = ap (line.Hold h) b.0; in_range = λ g s. (g.0, b.1) })
+  meant (line.Clear h) o e = subst (Meant (line.Clear h)) (same_Some _ _ e) (record { back = refl; in_range = λ g s. g })
   meant (line.Send q v) o e =
       operand_to (Some Value) q (λ p. Send p v) Alone (Meant (line.Send q v)) o e
-      (λ p n u. record { back = ap (λ z. line.Send z v) n; case = refl; select = refl; leads_on = refl; in_range = λ g s. (u g.0, g.1) })
+      (λ p n u. record { back = ap (λ z. line.Send z v) n; in_range = λ g s. (u g.0, g.1) })
   meant (line.Receive q v w) o e =
       operand_to (Some Value) q (λ p. Receive p v w) Alone (Meant (line.Receive q v w)) o e
-      (λ p n u. record { back = ap (λ z. line.Receive z v w) n; case = refl; select = refl; leads_on = refl; in_range = λ g s. (u g.0, g.1.0, g.1.1) })
+      (λ p n u. record { back = ap (λ z. line.Receive z v w) n; in_range = λ g s. (u g.0, g.1.0, g.1.1) })
   meant (line.SendHandle x h) o e =
       channel_to (Some Handle) x (λ c. SendHandle c h) Alone (Meant (line.SendHandle x h)) o e
-      (λ c n u. record { back = ap (λ z. line.SendHandle z h) n; case = refl; select = refl; leads_on = refl; in_range = λ g s. (u, g.1) })
+      (λ c n u. record { back = ap (λ z. line.SendHandle z h) n; in_range = λ g s. (u, g.1) })
   meant (line.ReceiveHandle x h w) o e =
       channel_to (Some Handle) x (λ c. ReceiveHandle c h w) Alone (Meant (line.ReceiveHandle x h w)) o e
-      (λ c n u. record { back = ap (λ z. line.ReceiveHandle z h w) n; case = refl; select = refl; leads_on = refl; in_range = λ g s. (u, g.1.0, g.1.1) })
+      (λ c n u. record { back = ap (λ z. line.ReceiveHandle z h w) n; in_range = λ g s. (u, g.1.0, g.1.1) })
   meant (line.Close q) o e =
       let m = mapped_back Close (operand k None q) o e in
       let b = operand_back None q m.0 m.1 in
-      subst (Meant (line.Close q)) m.2 (record { back = ap line.Close b.0; case = refl; select = refl; leads_on = refl; in_range = λ g s. b.1 g })
-  meant (line.Select n) o e = subst (Meant (line.Select n)) (same_Some _ _ e) (record { back = refl; case = refl; select = refl; leads_on = refl; in_range = λ g s. s })
+      subst (Meant (line.Close q)) m.2 (record { back = ap line.Close b.0; in_range = λ g s. b.1 g })
+  meant (line.Select n) o e = subst (Meant (line.Select n)) (same_Some _ _ e) (record { back = refl; in_range = λ g s. s })
   meant (line.CaseSend q v t) o e =
       operand_to (Some Value) q (λ p. Send p v) (λ f. Case f t) (Meant (line.CaseSend q v t)) o e
-      (λ p n u. record { back = ap (λ z. line.CaseSend z v t) n; case = refl; select = refl; leads_on = refl; in_range = λ g s. (u g.0, g.1.0) })
+      (λ p n u. record { back = ap (λ z. line.CaseSend z v t) n; in_range = λ g s. (u g.0, g.1.0) })
   meant (line.CaseReceive q v w t) o e =
       operand_to (Some Value) q (λ p. Receive p v w) (λ f. Case f t) (Meant (line.CaseReceive q v w t)) o e
-      (λ p n u. record { back = ap (λ z. line.CaseReceive z v w t) n; case = refl; select = refl; leads_on = refl; in_range = λ g s. (u g.0, g.1.0.0, g.1.0.1) })
+      (λ p n u. record { back = ap (λ z. line.CaseReceive z v w t) n; in_range = λ g s. (u g.0, g.1.0.0, g.1.0.1) })
   meant (line.CaseSendHandle x h t) o e =
       channel_to (Some Handle) x (λ c. SendHandle c h) (λ f. Case f t) (Meant (line.CaseSendHandle x h t)) o e
-      (λ c n u. record { back = ap (λ z. line.CaseSendHandle z h t) n; case = refl; select = refl; leads_on = refl; in_range = λ g s. (u, g.1.0) })
+      (λ c n u. record { back = ap (λ z. line.CaseSendHandle z h t) n; in_range = λ g s. (u, g.1.0) })
   meant (line.CaseReceiveHandle x h w t) o e =
       channel_to (Some Handle) x (λ c. ReceiveHandle c h w) (λ f. Case f t) (Meant (line.CaseReceiveHandle x h w t)) o e
-      (λ c n u. record { back = ap (λ z. line.CaseReceiveHandle z h w t) n; case = refl; select = refl; leads_on = refl; in_range = λ g s. (u, g.1.0.0, g.1.0.1) })
-  meant (line.CaseDefault t) o e = subst (Meant (line.CaseDefault t)) (same_Some _ _ e) (record { back = refl; case = refl; select = refl; leads_on = refl; in_range = λ g s. tt })
+      (λ c n u. record { back = ap (λ z. line.CaseReceiveHandle z h w t) n; in_range = λ g s. (u, g.1.0.0, g.1.0.1) })
+  meant (line.CaseDefault t) o e = subst (Meant (line.CaseDefault t)) (same_Some _ _ e) (record { back = refl; in_range = λ g s. tt })
   meant (line.Start x) o e =
       let m = mapped_back Start (place x k.bodies) o e in
       let b = place_back x k.bodies m.0 m.1 in
-      subst (Meant (line.Start x)) m.2 (record { back = ap line.Start b.1; case = refl; select = refl; leads_on = refl; in_range = λ g s. b.0 })
-  meant (line.Print v) o e = subst (Meant (line.Print v)) (same_Some _ _ e) (record { back = refl; case = refl; select = refl; leads_on = refl; in_range = λ g s. g })
-  meant (line.ValueChannel x n) o e = absurd (none-some _ e)
-  meant (line.HandleChannel x n) o e = absurd (none-some _ e)
-  meant (line.Routine x) o e = absurd (none-some _ e)
+      subst (Meant (line.Start x)) m.2 (record { back = ap line.Start b.1; in_range = λ g s. b.0 })
+  meant (line.Print v) o e = subst (Meant (line.Print v)) (same_Some _ _ e) (record { back = refl; in_range = λ g s. g })
+  meant _ o e = absurd (none-some _ e)

@@ -17,35 +17,19 @@ use Rattle.linking.specs.Sound.{cells_for}
 -- ---- one line, before channels, and before names
 counted_one : (r : Role (List ℕ)) (cs : List Channel) → length (map (λ c. c.declared) (cons_option (declared r) cs)) ≡ cond (is_declares r) 1 0 + length (map (λ c. c.declared) cs)
 counted_one (Declares k x n) cs = omega arith
-counted_one (Opens x) cs = omega arith
-counted_one (Selects n) cs = omega arith
-counted_one Acts cs = omega arith
-counted_one Case cs = omega arith
-counted_one Default cs = omega arith
+counted_one _ cs = omega arith
 
 opened_one : (r : Role (List ℕ)) (xs : List (List ℕ)) → length (cons_option (opens r) xs) ≡ cond (is_opens r) 1 0 + length xs
-opened_one (Declares k x n) xs = omega arith
 opened_one (Opens x) xs = omega arith
-opened_one (Selects n) xs = omega arith
-opened_one Acts xs = omega arith
-opened_one Case xs = omega arith
-opened_one Default xs = omega arith
+opened_one _ xs = omega arith
 
 small_one : (r : Role (List ℕ)) (cs : List Channel) → capacity r ≤ 64 → AllByRecursion (λ d. d.capacity ≤ 64) (map (λ c. c.declared) cs) → AllByRecursion (λ d. d.capacity ≤ 64) (map (λ c. c.declared) (cons_option (declared r) cs))
 small_one (Declares k x n) cs h a = (h, a)
-small_one (Opens x) cs h a = a
-small_one (Selects n) cs h a = a
-small_one Acts cs h a = a
-small_one Case cs h a = a
-small_one Default cs h a = a
+small_one _ cs h a = a
 
 cells_one : (c : Kind) (r : Role (List ℕ)) (cs : List Channel) → sum_by (cells_for c) (map (λ d. d.declared) (cons_option (declared r) cs)) ≡ capacity_of c r + sum_by (cells_for c) (map (λ d. d.declared) cs)
 cells_one c (Declares k x n) cs = omega (arith, sum_by-cons (cells_for c) (record { kind = k; capacity = n }) (map (λ d. d.declared) cs))
-cells_one c (Opens x) cs = omega arith
-cells_one c (Selects n) cs = omega arith
-cells_one c Acts cs = omega arith
-cells_one c Case cs = omega arith
-cells_one c Default cs = omega arith
+cells_one c _ cs = omega arith
 
 -- ---- all lines
 pub channels_counted : (ls : List (Line (List ℕ))) → length (channels ls) ≡ count_by is_declares (roles ls)

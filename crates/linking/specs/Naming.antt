@@ -22,11 +22,7 @@ use Rattle.linking.specs.declared.operation.Exchange.TheVariants as ex
 -- ---- what is declared
 abbrev pub declared : Role (List ℕ) → Option Channel
 declared (Declares k x n) = Some (record { name = x; declared = record { kind = k; capacity = n } })
-declared (Opens x) = None
-declared (Selects n) = None
-declared Acts = None
-declared CaseRole = None
-declared DefaultRole = None
+declared _ = None
 
 -- the channels of a script with their names, numbered from 0 as declared, both kinds together
 abbrev pub named_channels : List (Line (List ℕ)) → List Channel
@@ -111,6 +107,4 @@ operation k (CaseReceiveHandle x h w t) = case k (ex.ReceiveHandle x h w) t
 operation k (CaseDefault t) = Some (op.Default t)
 operation k (Start x) = option_map op.Start (place x k.bodies)
 operation k (Print v) = Some (op.Print v)
-operation k (ValueChannel x n) = None
-operation k (HandleChannel x n) = None
-operation k (Routine x) = None
+operation k _ = None

@@ -17,54 +17,22 @@ use Rattle.linking.specs.Naming.{suited}
 -- ---- what an operation is to those around it
 -- a case, the default too
 abbrev pub is_case : Operation → Bool
-is_case (Set v n) = false
-is_case (Add v w) = false
-is_case (Sub v w) = false
-is_case (Jump t) = false
-is_case (JumpNegative v t) = false
-is_case (Hold h c) = false
-is_case (Clear h) = false
-is_case (Alone e) = false
-is_case (Select n) = false
 is_case (Case e t) = true
 is_case (Default t) = true
-is_case (Close o) = false
-is_case (Start b) = false
-is_case (Print v) = false
+is_case _ = false
 
 -- how many cases it asks for
 abbrev pub asks : Operation → ℕ
-asks (Set v n) = 0
-asks (Add v w) = 0
-asks (Sub v w) = 0
-asks (Jump t) = 0
-asks (JumpNegative v t) = 0
-asks (Hold h c) = 0
-asks (Clear h) = 0
-asks (Alone e) = 0
 asks (Select n) = n
-asks (Case e t) = 0
-asks (Default t) = 0
-asks (Close o) = 0
-asks (Start b) = 0
-asks (Print v) = 0
+asks _ = 0
 
 -- the line of its body that it leads to
 abbrev pub leads : Operation → Option ℕ
-leads (Set v n) = None
-leads (Add v w) = None
-leads (Sub v w) = None
 leads (Jump t) = Some t
 leads (JumpNegative v t) = Some t
-leads (Hold h c) = None
-leads (Clear h) = None
-leads (Alone e) = None
-leads (Select n) = None
 leads (Case e t) = Some t
 leads (Default t) = Some t
-leads (Close o) = None
-leads (Start b) = None
-leads (Print v) = None
+leads _ = None
 
 -- ---- every number in range
 -- there is a channel of that number, of the kind that is wanted

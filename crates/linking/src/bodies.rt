@@ -72,7 +72,7 @@ impl Symbols {
     pub(crate) fn link_bodies(&self, lines: &[Line<Name>], heap: Global) -> Result<Vec<Body>, Stop>
         ensures { Makes vec_items (link_parts self.now (parts 1 lines.now)) result }
     {
-        let mut bodies = Vec::with_capacity(heap, 32)?;
+        let mut bodies = Vec::with_capacity(heap, self.bodies.len())?;
         for (i, line) in lines.iter().enumerate() {
             if opens(line) {
                 bodies.push(self.link_body(i + 1, own(&lines[i + 1..]), heap)?)?;
