@@ -1,47 +1,27 @@
 -- A word that is read as a name is one.
-use Rattle.std.proofs.Common.{◌≡◌, ℕ, Bool, true, false, cond, eqb, List, get_or, take, drop, ℤ, Some, None, Ok, Err, Option, Result, sym, refl, ap, ◌∙◌, arith}
-use Rattle.std.proofs.lemmas.Bool.{cond-true}
+use Rattle.std.proofs.Common.{◌≡◌, ℕ, ◌-◌, Bool, true, false, cond, List, get_or, take, ℤ, Some, None, Ok, Err, Option, Result, refl, ap}
 use Rattle.words.specs.declared.refusal.Fault.{Fault}
 use Rattle.words.specs.Names.{is_name}
-use Rattle.words.specs.Refusals.{broken}
-use Rattle.words.specs.Words.{Said, name, span, register, number_of, numbered, word_of, with_rest, read_word}
-use Rattle.lines.specs.Lines.{read_field}
+use Rattle.words.specs.Words.{Said, name, number, value, handle, span, register, number_of, numbered, with_rest, read_word}
+use Rattle.lines.specs.Lines.{then}
+use Rattle.line_reader.specs.Reads.{Spelt}
 
--- where the answer is a name, it is one
-abbrev Named : Result Said Fault → Type 0
-Named o = (x : List ℕ) → o ≡ Ok (name x) → is_name x ≡ true
+-- by the tests that word_of makes
+by_tests : (t x : List ℕ) (n k : ℕ) (v h : Bool) (z : Option ℤ) (b : Bool) → b ≡ is_name t → Ok (name x) ≡ cond v (Ok (value k)) (cond h (Ok (handle k)) (cond b (Ok (name t)) (numbered n z))) → is_name x ≡ true
+by_tests t x n k true h z b q e = cc
+by_tests t x n k false true z b q e = cc
+by_tests t x n k false false z true q e = cc
+by_tests t x n k false false (Some i) false q e = cc
+by_tests t x n k false false None false q e = cc
 
-by_test : (b : Bool) (p q : Result Said Fault) → (b ≡ true → Named p) → Named q → Named (cond b p q)
-by_test true p q h k = h refl
-by_test false p q h k = k
+front : (l r : List ℕ) (w : Said) (o : Result Said Fault) → Ok (w, r) ≡ with_rest l o → Ok w ≡ o
+front l r w (Ok v) e = ap (λ o. then o (λ u left. Ok u)) e
+front l r w (Err d) e = ap (λ o. then o (λ u left. Ok u)) e
 
-named_number : (n : ℕ) (o : Option ℤ) → Named (numbered n o)
-named_number n None x e = let z : ◌≡◌ {A = ℕ} 0 1 = cc in absurd (omega arith)
-named_number n (Some i) x e = let z : ◌≡◌ {A = ℕ} 0 1 = cc in absurd (omega arith)
-
-named_word : (n : ℕ) (t : List ℕ) → Named (word_of n t)
-named_word n t =
-    by_test (register 118 8 t) _ _ (λ b x e. let z : ◌≡◌ {A = ℕ} 0 1 = cc in absurd (omega arith))
-    (by_test (register 104 4 t) _ _ (λ b x e. let z : ◌≡◌ {A = ℕ} 0 1 = cc in absurd (omega arith))
-    (by_test (is_name t) _ _ (λ b x e. let s : t ≡ x = cc in ap is_name (sym s) ∙ b) (named_number n (number_of t))))
-
-named_rest : (rest : List ℕ) (o : Result Said Fault) → Named o → (x r : List ℕ) → with_rest rest o ≡ Ok (name x, r) → is_name x ≡ true
-named_rest rest (Ok w) h x r e =
-    let p : ◌≡◌ {A = Said × List ℕ} (w, rest) (name x, r) = cc in
-    h x (ap (λ q. Ok q.0) p)
-named_rest rest (Err d) h x r e = let z : ◌≡◌ {A = ℕ} 0 1 = cc in absurd (omega arith)
-
-by_space : (b : Bool) (n : ℕ) (s x r : List ℕ) → cond b (read_word n s) (Err (broken n)) ≡ Ok (name x, r) → is_name x ≡ true
-by_space true n s x r e = named_rest (drop (span 32 s) s) (word_of n (take (span 32 s) s)) (named_word n (take (span 32 s) s)) x r e
-by_space false n s x r e = let z : ◌≡◌ {A = ℕ} 0 1 = cc in absurd (omega arith)
-
-pub named_field : (n : ℕ) (s x r : List ℕ) → read_field n s ≡ Ok (name x, r) → is_name x ≡ true
-unfolding read_field
-named_field n s x r e = by_space (eqb (get_or s 0 0) 32) n (drop 1 s) x r e
-
--- so its bytes are held
-pub held_field : {X : Type 0} (n : ℕ) (s x r : List ℕ) (d : Fault) → read_field n s ≡ Ok (name x, r) → Err d ≡ cond (is_name x) (Ok x) (Err (broken n)) → X
-held_field n s x r d e h =
-    let f : ◌≡◌ {A = Result (List ℕ) Fault} (Err d) (Ok x) = h ∙ cond-true (is_name x) _ _ (named_field n s x r e) in
-    let z : ◌≡◌ {A = ℕ} 0 1 = cc in
-    absurd (omega arith)
+pub named : (n : ℕ) (s r : List ℕ) (w : Said) → Ok (w, r) ≡ read_word n s → Spelt w
+named n s r (name x) e =
+    let t = take (span 32 s) s in
+    by_tests t x n (get_or t 1 0 - 48) (register 118 8 t) (register 104 4 t) (number_of t) (is_name t) refl (front _ _ _ _ e)
+named n s r (number z) e = tt
+named n s r (value k) e = tt
+named n s r (handle k) e = tt

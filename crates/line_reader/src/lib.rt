@@ -2,6 +2,7 @@
 #![tactic(auto)]
 
 mod fields;
+mod kinds;
 mod reading;
 
 pub use reading::read_line;

@@ -1,5 +1,3 @@
-pub mod Places
-pub mod Stands
 pub mod Pieces
 pub mod Readings
 pub mod Relisting

@@ -1,5 +1,5 @@
 -- A text that is read is what is listed of its lines.
-use Rattle.std.proofs.Common.{◌≡◌, ℕ, suc, ◌+◌, ◌≤◌, Bool, true, false, eqb, ltb, List, [], ◌∷◌, ◌++◌, map, length, take, Some, None, Ok, Err, vec_items, vec_len, Option, Result, sym, refl, ap, ◌∙◌, ⊎_elim, arith}
+use Rattle.std.proofs.Common.{◌≡◌, ℕ, suc, ◌+◌, ◌≤◌, Bool, true, false, eqb, ltb, List, [], ◌∷◌, ◌++◌, length, take, Some, None, Ok, Err, vec_items, vec_len, Option, Result, sym, refl, ap, ◌∙◌, ⊎_elim, arith}
 use Rattle.std.proofs.lemmas.List.{append_assoc, nil_from_length}
 use Rattle.std.proofs.lemmas.Bool.{cond-false, le-ltb, eqb-true}
 use Rattle.words.specs.declared.refusal.Refusal.{Refusal}
@@ -7,9 +7,8 @@ use Rattle.words.specs.declared.refusal.Refusal.TheVariants.{Overlong}
 use Rattle.words.specs.declared.refusal.Fault.{Fault}
 use Rattle.words.specs.Refusals.{fault, broken}
 use Rattle.words.specs.Words.{span}
-use Rattle.words.specs.Spelled.{spelled}
 use Rattle.lines.specs.declared.line.Line.{Line}
-use Rattle.lines.specs.Lines.{read_line, line_of}
+use Rattle.lines.specs.Lines.{read_line}
 use Rattle.lines.specs.Roles.{role}
 use Rattle.lines.specs.Shows.{show_line}
 use Rattle.text_laws.proofs.Numbers.{either}
@@ -19,9 +18,8 @@ use Rattle.script.specs.declared.draft.Draft.{Draft}
 use Rattle.script.specs.declared.tally.Tally.{Tally}
 use Rattle.script.specs.Rules.{Standing, nothing, fresh, standing, judge}
 use Rattle.script.specs.Texts.{onto, pieces, none_left, read_piece, admitted, judged, read_on, read_script, show}
-use Rattle.script.specs.Drafts.{seen, Blank, behind, reading}
+use Rattle.script.specs.Drafts.{Blank, behind, reading}
 use Rattle.script.proofs.Pieces.{piece_ended}
-use Rattle.script.proofs.Stands.{same_standing}
 
 -- ---- pieces put together again
 flat : List (List ℕ) → List ℕ
@@ -82,23 +80,7 @@ behind_none (Err e) = refl
 
 pub from_blank : (d : Draft) (t : List ℕ) → Blank d → length t ≤ 32768 → reading d 1 t ≡ read_script t
 from_blank d t b h =
-    ap (λ ls. behind ls (read_on 1 (seen d) (pieces t))) b.no_lines
+    ap (λ ls. behind ls (read_on 1 d.standing (pieces t))) b.no_lines
     ∙ ap (λ s. behind [] (read_on 1 s (pieces t))) b.nothing_yet
     ∙ behind_none (read_on 1 fresh (pieces t))
     ∙ sym (cond-false (ltb 32768 (length t)) _ _ (le-ltb 32768 (length t) h))
-
-tally_made : {a b c d e f : ℕ} {g : Bool} → a ≡ 0 → b ≡ 0 → c ≡ 0 → d ≡ 0 → e ≡ 0 → f ≡ 0 → g ≡ false → ◌≡◌ {A = Tally} (record { channels = a; bodies = b; lines = c; values = d; handles = e; due = f; defaulted = g }) nothing
-tally_made a b c d e f g = cc
-
-pub blank : (d : Draft) → vec_len d.lines ≡ 0 → (d.tally.values ≡ 0) × (d.tally.handles ≡ 0) → (d.tally.due ≡ 0) × (d.tally.defaulted ≡ false) → Blank d
-blank d n u i =
-    let cs : d.tally.channels ≡ 0 = omega (arith, d.counted) in
-    let bs : d.tally.bodies ≡ 0 = omega (arith, d.counted) in
-    let ls : d.tally.lines ≡ 0 = omega (arith, d.counted) in
-    let none-l = nil_from_length (vec_items d.lines) (sym d.lines.ok.0 ∙ n) in
-    let none-c = nil_from_length (vec_items d.channels) (sym d.channels.ok.0 ∙ d.channelled ∙ cs) in
-    let none-b = nil_from_length (vec_items d.bodies) (sym d.bodies.ok.0 ∙ d.bodied ∙ bs) in
-    record {
-      no_lines = ap (map line_of) none-l;
-      nothing_yet = same_standing (tally_made cs bs ls u.0 u.1 i.0 i.1) (ap (map spelled) none-c) (ap (map spelled) none-b);
-    }

@@ -1,6 +1,6 @@
 pub mod Rules
 pub mod Drafts
 pub mod Texts
-pub mod Ended
+pub mod Pieces
 pub mod Kept
 pub mod States

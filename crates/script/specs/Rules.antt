@@ -1,11 +1,9 @@
 -- Which line may follow the lines before it.
-use Rattle.std.specs.Prelude.{ℕ, suc, ◌+◌, ◌-◌, Bool, true, false, cond, ◌&&◌, ◌||◌, List, [], ◌∷◌, ◌++◌, is_some, Some, None, Option, ◌==◌, nat_le, nat_lt}
+use Rattle.std.specs.Prelude.{ℕ, ◌+◌, ◌-◌, Bool, true, false, cond, ◌&&◌, ◌||◌, List, [], ◌++◌, is_some, position, Some, None, Option, ◌==◌, nat_le, nat_lt}
 use Rattle.std.specs.Str.{bytes_eq}
 use Rattle.std.specs.Option.{option_to_list}
-use Rattle.words.specs.declared.name.Name.{Name}
 use Rattle.words.specs.declared.refusal.Refusal.{Refusal}
 use Rattle.words.specs.declared.refusal.Refusal.TheVariants.{Misplaced, Full, Twice}
-use Rattle.words.specs.Spelled.{spelled}
 use Rattle.lines.specs.declared.line.Kind.{Kind}
 use Rattle.lines.specs.declared.line.Kind.TheVariants.{Value, Handle}
 use Rattle.lines.specs.declared.line.Role.{Role}
@@ -62,14 +60,9 @@ after t Case = acting t (t.due - 1) t.defaulted
 after t Default = acting t (t.due - 1) true
 
 -- ---- names
-abbrev pub further : Option ℕ → Option ℕ
-further None = None
-further (Some i) = Some (suc i)
-
 -- the first place at which a name stands
 abbrev pub place : List ℕ → List (List ℕ) → Option ℕ
-place x [] = None
-place x (y ∷ ys) = cond (bytes_eq y x) (Some 0) (further (place x ys))
+place x xs = position (λ y. bytes_eq y x) xs
 
 -- ---- what the lines before leave
 pub record Standing : Type 0 where
@@ -113,12 +106,3 @@ abbrev pub judge : Standing → Role (List ℕ) → Bool → Option Refusal
 judge s r last =
     cond (misplaced s.tally r || (last && nat_lt 0 (after s.tally r).due)) (Some Misplaced)
     (cond (full s.tally r) (Some Full) (cond (twice s r) (Some Twice) None))
-
--- ---- what the code holds, with each name by its bytes
-abbrev pub role_of : Role Name → Role (List ℕ)
-role_of (Declares k x n) = Declares k (spelled x) n
-role_of (Opens x) = Opens (spelled x)
-role_of (Selects n) = Selects n
-role_of Acts = Acts
-role_of Case = Case
-role_of Default = Default

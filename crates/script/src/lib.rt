@@ -6,6 +6,7 @@ mod draft;
 mod listing;
 mod lookup;
 mod reading;
+mod standing;
 mod state;
 mod tally;
 mod text;

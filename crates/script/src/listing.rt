@@ -1,7 +1,6 @@
 // Listing a script that was read.
-ghost use Rattle.std.specs.Prelude.{◌≡◌, ◌+◌, ◌≤◌, [], ◌∷◌, ◌++◌, map, length};
+ghost use Rattle.std.specs.Prelude.{◌≡◌, ◌+◌, ◌≤◌, [], ◌∷◌, ◌++◌, length};
 ghost use Rattle.words.specs.Shows.{Wrote};
-ghost use Rattle.lines.specs.Lines.{line_of};
 ghost use Rattle.lines.specs.Shows.{show_line};
 ghost use Rattle.script.specs.Texts.{show};
 ghost use Rattle.script.specs.States.{script_of, Printed, Ends};
@@ -12,8 +11,8 @@ use words::{Name, Refusal};
 
 // A line and its end, where there is room for them.
 fn put_ended(out: &mut [u8], at: usize, line: Line<Name>) -> Result<usize, Refusal>
-    requires { at + length (show_line (line_of line)) + 1 ≤ length out.old }
-    ensures { Ends out.old at (show_line (line_of line) ++ (10 ∷ [])) out.new result }
+    requires { at + length (show_line line) + 1 ≤ length out.old }
+    ensures { Ends out.old at (show_line line ++ (10 ∷ [])) out.new result }
 {
     let end = put_line(out, at, line)?;
     out[end] = b'\n';
@@ -23,7 +22,7 @@ fn put_ended(out: &mut [u8], at: usize, line: Line<Name>) -> Result<usize, Refus
 impl Read {
     // Its lines, in order.
     pub fn lines(&self) -> &[Line<Name>]
-        ensures { map line_of result.now ≡ script_of self.now }
+        ensures { result.now ≡ script_of self.now }
     {
         self.draft.lines.as_slice()
     }

@@ -1,6 +1,7 @@
 // The states of a script: empty, and read. Each is moved into the next.
-ghost use Rattle.std.specs.Prelude.{◌≡◌, false, length, vec_len};
+ghost use Rattle.std.specs.Prelude.{◌≡◌, [], length};
 ghost use Rattle.script.specs.Drafts.{lines_of};
+ghost use Rattle.script.specs.Rules.{fresh};
 ghost use Rattle.script.specs.Kept.{Kept};
 ghost use Rattle.script.specs.Texts.{show};
 
@@ -11,9 +12,8 @@ use words::Fault;
 #[derive(Drop)]
 pub struct Empty {
     pub(crate) draft: Draft,
-    ghost none: { vec_len draft.lines ≡ 0 },
-    ghost unfilled: { (draft.tally.values ≡ 0) × (draft.tally.handles ≡ 0) },
-    ghost idle: { (draft.tally.due ≡ 0) × (draft.tally.defaulted ≡ false) },
+    ghost none: { lines_of draft ≡ [] },
+    ghost unfilled: { draft.standing ≡ fresh },
 }
 
 // A script as it was read.

@@ -1,11 +1,11 @@
 // What the lines read so far add up to, and which line fits after them.
 ghost use Rattle.std.specs.Prelude.{◌≡◌, ◌+◌, ◌<◌, ◌≤◌, false, nat_lt};
-ghost use Rattle.script.specs.Rules.{nothing, role_of, cells as cells_of, total as total_of, misplaced as is_misplaced, full as is_full, declaring, after as after_line};
+ghost use Rattle.script.specs.Rules.{cells as cells_of, total as total_of, misplaced as is_misplaced, full as is_full, declaring, acting, after as after_line};
 
 use lines::{Kind, Role};
 use words::Name;
 
-#[derive(Clone, Copy)]
+#[derive(Clone, Copy, Default)]
 pub struct Tally {
     // channels and bodies declared, and lines of bodies
     pub channels: usize,
@@ -30,20 +30,6 @@ fn cells(kind: Kind) -> u32
 }
 
 impl Tally {
-    pub(crate) fn none() -> Tally
-        ensures { result ≡ nothing }
-    {
-        Tally {
-            channels: 0,
-            bodies: 0,
-            lines: 0,
-            values: 0,
-            handles: 0,
-            due: 0,
-            defaulted: false,
-        }
-    }
-
     // The capacities of that kind together.
     fn total(self, kind: Kind) -> u32
         ensures { result ≡ total_of self kind }
@@ -62,8 +48,8 @@ impl Tally {
     }
 
     // Whether a line of that role stands in the wrong part.
-    pub(crate) fn misplaced(self, role: Role<Name>) -> bool
-        ensures { result ≡ is_misplaced self (role_of role) }
+    pub(crate) fn misplaced(self, role: &Role<Name>) -> bool
+        ensures { result ≡ is_misplaced self role.now }
     {
         match role {
             Role::Declares(_, _, _) => self.bodies > 0,
@@ -75,86 +61,75 @@ impl Tally {
     }
 
     // Whether a line of that role passes a limit.
-    pub(crate) fn full(self, role: Role<Name>) -> bool
-        ensures { result ≡ is_full self (role_of role) }
+    pub(crate) fn full(self, role: &Role<Name>) -> bool
+        ensures { result ≡ is_full self role.now }
     {
         match role {
             Role::Declares(kind, _, capacity) => self.channels >= 32
-                || capacity > 64
-                || self.overfilled(kind, capacity),
+                || *capacity > 64
+                || self.overfilled(*kind, *capacity),
             Role::Opens(_) => self.bodies >= 32,
-            Role::Selects(cases) => self.lines >= 512 || cases > 8,
+            Role::Selects(cases) => self.lines >= 512 || *cases > 8,
             Role::Acts | Role::Case | Role::Default => self.lines >= 512,
         }
     }
 
     // Whether case lines are still due after a line of that role.
-    pub(crate) fn leaves_due(self, role: Role<Name>) -> bool
-        ensures { result ≡ nat_lt 0 (after_line self (role_of role)).due }
+    pub(crate) fn leaves_due(self, role: &Role<Name>) -> bool
+        ensures { result ≡ nat_lt 0 (after_line self role.now).due }
     {
         match role {
             Role::Declares(_, _, _) => self.due > 0,
             Role::Opens(_) | Role::Acts => false,
-            Role::Selects(cases) => cases > 0,
+            Role::Selects(cases) => *cases > 0,
             Role::Case | Role::Default => self.due > 1,
         }
     }
 
     // One more channel of that kind.
-    fn declared(self, kind: Kind, capacity: u32) -> Tally
+    fn declaring(self, kind: Kind, capacity: u32) -> Tally
         requires few { self.channels < 32 }
         requires within { total_of self kind + capacity ≤ cells_of kind }
         ensures { result ≡ declaring self kind capacity }
     {
-        let channels = self.channels + 1;
+        let mut tally = self;
+        tally.channels += 1;
         match kind {
-            Kind::Value => Tally {
-                channels,
-                values: self.values + capacity,
-                ..self
-            },
-            Kind::Handle => Tally {
-                channels,
-                handles: self.handles + capacity,
-                ..self
-            },
+            Kind::Value => tally.values += capacity,
+            Kind::Handle => tally.handles += capacity,
+        }
+        tally
+    }
+
+    // One more line of a body, after which that many cases are due.
+    fn acting(self, due: u32, defaulted: bool) -> Tally
+        requires { self.lines < 512 }
+        ensures { result ≡ acting self due defaulted }
+    {
+        Tally {
+            lines: self.lines + 1,
+            due,
+            defaulted,
+            ..self
         }
     }
 
     // What a line of that role makes of it.
-    pub(crate) fn after(self, role: Role<Name>) -> Tally
-        requires { is_full self (role_of role) ≡ false }
-        ensures { result ≡ after_line self (role_of role) }
+    pub(crate) fn after(self, role: &Role<Name>) -> Tally
+        requires { is_full self role.now ≡ false }
+        ensures { result ≡ after_line self role.now }
     {
         match role {
-            Role::Declares(kind, _, capacity) => self.declared(kind, capacity),
+            Role::Declares(kind, _, capacity) => self.declaring(*kind, *capacity),
             Role::Opens(_) => Tally {
                 bodies: self.bodies + 1,
                 due: 0,
                 ..self
             },
-            Role::Selects(cases) => Tally {
-                lines: self.lines + 1,
-                due: cases,
-                defaulted: false,
-                ..self
-            },
-            Role::Acts => Tally {
-                lines: self.lines + 1,
-                due: 0,
-                ..self
-            },
-            Role::Case => Tally {
-                lines: self.lines + 1,
-                due: self.due.saturating_sub(1),
-                ..self
-            },
-            Role::Default => Tally {
-                lines: self.lines + 1,
-                due: self.due.saturating_sub(1),
-                defaulted: true,
-                ..self
-            },
+            Role::Selects(cases) => self.acting(*cases, false),
+            Role::Acts => self.acting(0, self.defaulted),
+            Role::Case => self.acting(self.due.saturating_sub(1), self.defaulted),
+            Role::Default => self.acting(self.due.saturating_sub(1), true),
         }
     }
 }

@@ -1,42 +1,53 @@
 -- Names that stand once.
-use Rattle.std.proofs.Common.{◌≡◌, ℕ, Bool, true, false, List, [], ◌∷◌, ◌++◌, is_some, Some, None, Option, sym, refl, ap, ◌∙◌, subst}
+use Rattle.std.proofs.Common.{◌≡◌, ℕ, ◌≤◌, Bool, true, false, cond, ltb, List, [], ◌∷◌, ◌++◌, length, is_some, Some, None, Option, sym, refl, ap, ◌∙◌, subst, arith}
 use Rattle.std.specs.Option.{option_to_list}
-use Rattle.std.specs.List.{flat_map, AllByRecursion}
+use Rattle.std.specs.List.{flat_map, position_or_len, AllByRecursion}
 use Rattle.std.specs.Str.{bytes_eq}
 use Rattle.std.proofs.ByRecursion.{All-push}
 use Rattle.std.proofs.lemmas.Slice.Eq.{bytes_eq-Decides}
 use Rattle.std.proofs.lemmas.List.{append-nil}
-use Rattle.std.proofs.lemmas.Bool.{both_ways, true≢false}
+use Rattle.std.proofs.lemmas.Bool.{both_ways, ltb-false, le-ltb}
 use Rattle.lines.specs.declared.line.Role.{Role}
 use Rattle.lines.specs.declared.line.Role.TheVariants.{Declares, Opens, Selects, Acts, Case, Default}
-use Rattle.script.specs.Rules.{further, place, declares, opens, known}
+use Rattle.script.specs.Rules.{place, declares, opens, known}
 use Rattle.script_laws.specs.Lawful.{channel_name, body_name, Distinct}
 
 -- x stands nowhere in xs
 abbrev pub Absent : List ℕ → List (List ℕ) → Type 0
 Absent x xs = AllByRecursion (λ y. y ≡ x → ⊥) xs
 
-some_further : (o : Option ℕ) → is_some (further o) ≡ is_some o
-some_further None = refl
-some_further (Some i) = refl
+-- how many names stand before x
+abbrev before : List ℕ → List (List ℕ) → ℕ
+before x xs = position_or_len (λ y. bytes_eq y x) xs
+
+some_placed : (x : List ℕ) (xs : List (List ℕ)) → is_some (place x xs) ≡ ltb (before x xs) (length xs)
+some_placed x xs = by (ltb (before x xs) (length xs))
+  where
+    by : (b : Bool) → is_some (cond b (Some (before x xs)) None) ≡ b
+    by true = refl
+    by false = refl
+
+all_before : (x : List ℕ) (xs : List (List ℕ)) → length xs ≤ before x xs → Absent x xs
+all_before x [] h = tt
+all_before x (y ∷ ys) h = go (bytes_eq y x) refl (all_before x ys)
+  where
+    go : (b : Bool) → bytes_eq y x ≡ b → (length ys ≤ before x ys → Absent x ys) → Absent x (y ∷ ys)
+    go true t more = absurd (omega (arith, rw t at h))
+    go false t more = (λ same. both_ways (bytes_eq y x) t ((bytes_eq-Decides y x).1 same), more (omega (arith, rw t at h)))
+
+absent_all : (x : List ℕ) (xs : List (List ℕ)) → Absent x xs → length xs ≤ before x xs
+absent_all x [] a = omega arith
+absent_all x (y ∷ ys) a = go (bytes_eq y x) refl (absent_all x ys a.1)
+  where
+    go : (b : Bool) → bytes_eq y x ≡ b → length ys ≤ before x ys → length (y ∷ ys) ≤ before x (y ∷ ys)
+    go true t more = absurd (a.0 ((bytes_eq-Decides y x).0 t))
+    go false t more = rw t (omega arith)
 
 absent : (x : List ℕ) (xs : List (List ℕ)) → is_some (place x xs) ≡ false → Absent x xs
-absent x [] e = tt
-absent x (y ∷ ys) e = go (bytes_eq y x) refl (absent x ys)
-  where
-    go : (b : Bool) → bytes_eq y x ≡ b → (is_some (place x ys) ≡ false → Absent x ys) → Absent x (y ∷ ys)
-    go true t more = absurd (true≢false (rw t at e))
-    go false t more =
-        let rest : is_some (further (place x ys)) ≡ false = rw t at e in
-        (λ same. both_ways (bytes_eq y x) t ((bytes_eq-Decides y x).1 same), more (sym (some_further (place x ys)) ∙ rest))
+absent x xs e = all_before x xs (ltb-false _ _ (sym (some_placed x xs) ∙ e))
 
 unplaced : (x : List ℕ) (xs : List (List ℕ)) → Absent x xs → is_some (place x xs) ≡ false
-unplaced x [] a = refl
-unplaced x (y ∷ ys) a = go (bytes_eq y x) refl (unplaced x ys a.1)
-  where
-    go : (b : Bool) → bytes_eq y x ≡ b → is_some (place x ys) ≡ false → is_some (place x (y ∷ ys)) ≡ false
-    go true t more = absurd (a.0 ((bytes_eq-Decides y x).0 t))
-    go false t more = rw t (some_further (place x ys) ∙ more)
+unplaced x xs a = some_placed x xs ∙ le-ltb _ _ (absent_all x xs a)
 
 -- ---- one name more
 distinct_push : (xs : List (List ℕ)) (x : List ℕ) → Absent x xs → Distinct xs → Distinct (xs ++ (x ∷ []))

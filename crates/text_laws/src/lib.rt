@@ -3,10 +3,8 @@
 
 ghost use Rattle.text_laws.specs.Laws.{ReadsBack, ListsBack, NoEnd};
 
-pub fn lines_round_trip() -> u8
+pub fn lines_round_trip()
     ensures reads { ReadsBack }
     ensures lists { ListsBack }
     ensures ends { NoEnd }
-{
-    0
-}
+{}

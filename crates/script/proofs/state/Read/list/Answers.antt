@@ -1,8 +1,6 @@
-use Rattle.std.proofs.Common.{ℕ, ◌≤◌, List, [], ◌∷◌, ◌++◌, map, length, get_or, pos, ap, ◌∙◌, subst, arith}
+use Rattle.std.proofs.Common.{ℕ, ◌≤◌, List, [], ◌∷◌, ◌++◌, length, ap, ◌∙◌, subst, arith}
 use Rattle.words.specs.Shows.{Wrote}
 use Rattle.words.proofs.Writes.{wrote_none, wrote_then}
-use Rattle.lines.specs.declared.line.Line.TheVariants.{Set}
-use Rattle.lines.specs.Lines.{line_of}
 use Rattle.lines.specs.Shows.{show_line}
 use Rattle.script.specs.Texts.{show}
 use Rattle.script.proofs.Showing.{shown, shown_more, shown_room, shown_all, shown_none, printed_all}
@@ -14,21 +12,22 @@ loop-line-init c = rw (shown_none c.deref-line-items.result.now) (wrote_none c.a
 pub put_ended-requires : goal.put_ended-requires
 put_ended-requires c =
     let ls = c.deref-line-items.result.now in
-    let whole = ap (λ l. length (show (map line_of l))) c.deref-line-items.ensures.value in
-    omega (arith, shown_room ls c.loop-line.line-index (Set 0 (pos 0)) c.loop-line-test.true, whole, c.args.self.now.sized)
+    let whole = ap (λ l. length (show l)) c.deref-line-items.ensures.value in
+    omega (arith, shown_room ls c.loop-line.line-index c.loop-line-test.true c.line-item.result c.line-item.is, whole, c.args.self.now.sized)
 
 pub loop-line-preserved : goal.loop-line-preserved
 loop-line-preserved c =
     let ls = c.deref-line-items.result.now in
     let i = c.loop-line.line-index in
-    let whole = ap (λ l. length (show (map line_of l))) c.deref-line-items.ensures.value in
-    let room : length (shown ls i) ≤ length c.args.out.now = omega (arith, shown_room ls i (Set 0 (pos 0)) c.loop-line-test.true, whole, c.args.self.now.sized) in
-    rw (shown_more ls i (Set 0 (pos 0)) c.loop-line-test.true)
-    (wrote_then c.args.out.now 0 (shown ls i) _ _ (show_line (line_of (get_or ls i (Set 0 (pos 0)))) ++ (10 ∷ [])) _ _ (omega arith) c.loop-line.invariant c.in_ok-at.ensures)
+    let x = c.line-item.result in
+    let whole = ap (λ l. length (show l)) c.deref-line-items.ensures.value in
+    let room : length (shown ls i) ≤ length c.args.out.now = omega (arith, shown_room ls i c.loop-line-test.true x c.line-item.is, whole, c.args.self.now.sized) in
+    rw (shown_more ls i c.loop-line-test.true x c.line-item.is)
+    (wrote_then c.args.out.now 0 (shown ls i) _ _ (show_line x ++ (10 ∷ [])) _ _ (omega arith) c.loop-line.invariant c.in_ok-at.ensures)
 
 pub returns : goal.returns
 returns c =
     let ls = c.deref-line-items.result.now in
-    let whole = shown_all ls c.loop-line.line-index c.loop-line-test.false ∙ ap (λ l. show (map line_of l)) c.deref-line-items.ensures.value in
+    let whole = shown_all ls c.loop-line.line-index c.loop-line-test.false ∙ ap show c.deref-line-items.ensures.value in
     let P : List ℕ → Type 0 = λ t. Wrote c.args.out.now 0 t c.loop-line.out c.loop-line.at in
     printed_all c.args.out.now _ c.loop-line.out c.loop-line.at (omega (arith, c.args.self.now.sized)) (subst P whole c.loop-line.invariant)

@@ -1,0 +1,34 @@
+-- What a reader of the code does, by the reader of the specification.
+use Rattle.std.specs.Prelude.{◌≡◌, ℕ, true, List, Ok, Err, Result, MatchResult, IsOkAnd}
+use Rattle.words.specs.declared.refusal.Fault.{Fault}
+use Rattle.words.specs.Names.{is_name}
+use Rattle.words.specs.Words.{Said, name, number, value, handle}
+use Rattle.lines.specs.Lines.{Reader, then, ended}
+use Rattle.line_reader.specs.declared.fields.Fields.{Fields}
+
+-- an answer, and what is left after it; what a refusal leaves is open, since nothing more is read
+abbrev pub with_left : {X : Type 0} → Result X Fault → List ℕ → Result (X × List ℕ) Fault
+with_left (Ok x) left = Ok (x, left)
+with_left (Err e) left = Err e
+
+-- p says of the fields what was answered and what is left of them
+pub record Reads {X : Type 0} (p : Reader X) (before : Fields) (answer : Result X Fault) (after : Fields) : Type 0 where
+  pub same_line : after.line ≡ before.line
+  pub read : with_left answer after.rest.now ≡ p before.line before.rest.now
+
+-- p, and then the line ends
+abbrev pub to_the_end : {X : Type 0} → Reader X → ℕ → List ℕ → Result X Fault
+to_the_end p n s = then (p n s) (λ x left. ended n x left)
+
+-- the answer is made of what p says of the whole line
+pub record Makes {X Y : Type 0} (p : Reader X) (made : X → Y → Type 0) (before : Fields) (answer : Result Y Fault) : Type 0 where
+  pub all : Result X Fault
+  pub read : all ≡ to_the_end p before.line before.rest.now
+  pub answered : MatchResult all (λ x. IsOkAnd answer (made x)) (λ e. answer ≡ Err e)
+
+-- a name is spelt as one
+abbrev pub Spelt : Said → Type 0
+Spelt (name x) = is_name x ≡ true
+Spelt (number z) = Unit {0}
+Spelt (value k) = Unit {0}
+Spelt (handle k) = Unit {0}

@@ -1,0 +1,129 @@
+// The kinds of field that a line has, and how each is read.
+ghost use Rattle.std.specs.Prelude.{◌≡◌, if◌then◌else◌, Ok, Err};
+ghost use Rattle.words.specs.Names.{is_name};
+ghost use Rattle.words.specs.Refusals.{broken};
+ghost use Rattle.lines.specs.Lines.{Reader, only, both, as_value, as_handle, as_integer, as_natural, as_name, as_operand};
+ghost use Rattle.line_reader.specs.Reads.{Reads};
+
+use crate::fields::Fields;
+use lines::Operand;
+use words::{Fault, Name, Word};
+
+// A kind of field, or several of them: `reader` is what the specification reads.
+pub(crate) trait Kind {
+    type Out: Drop;
+
+    ghost reader: { Reader Self.Out };
+
+    fn read(fields: &mut Fields<'_>) -> Result<Self::Out, Fault>
+        ensures { Reads reader fields.old result fields.new };
+}
+
+// A value register.
+pub(crate) enum Value {}
+
+impl Kind for Value {
+    type Out = u8;
+
+    ghost reader = { only as_value };
+
+    fn read(fields: &mut Fields<'_>) -> Result<u8, Fault> {
+        match fields.word()? {
+            Word::Value(v) => Ok(v),
+            _ => Err(Fault::broken(fields.line)),
+        }
+    }
+}
+
+// A handle register.
+pub(crate) enum Handle {}
+
+impl Kind for Handle {
+    type Out = u8;
+
+    ghost reader = { only as_handle };
+
+    fn read(fields: &mut Fields<'_>) -> Result<u8, Fault> {
+        match fields.word()? {
+            Word::Handle(h) => Ok(h),
+            _ => Err(Fault::broken(fields.line)),
+        }
+    }
+}
+
+impl Kind for i32 {
+    type Out = i32;
+
+    ghost reader = { only as_integer };
+
+    fn read(fields: &mut Fields<'_>) -> Result<i32, Fault> {
+        match fields.word()? {
+            Word::Number(n) => Ok(n),
+            _ => Err(Fault::broken(fields.line)),
+        }
+    }
+}
+
+// A number without a minus.
+impl Kind for u32 {
+    type Out = u32;
+
+    ghost reader = { only as_natural };
+
+    fn read(fields: &mut Fields<'_>) -> Result<u32, Fault> {
+        match fields.word()? {
+            Word::Number(n) if n >= 0 => Ok(n as u32),
+            _ => Err(Fault::broken(fields.line)),
+        }
+    }
+}
+
+impl Kind for Name {
+    type Out = Name;
+
+    ghost reader = { only as_name };
+
+    fn read(fields: &mut Fields<'_>) -> Result<Name, Fault> {
+        match fields.word()? {
+            Word::Name(bytes) => Name::new(bytes).ok_or(Fault::broken(fields.line)),
+            _ => Err(Fault::broken(fields.line)),
+        }
+    }
+}
+
+pub(crate) type Channel = Operand<Name>;
+
+// The name of a channel, or a handle register.
+impl Kind for Channel {
+    type Out = Channel;
+
+    ghost reader = { only as_operand };
+
+    fn read(fields: &mut Fields<'_>) -> Result<Channel, Fault> {
+        match fields.word()? {
+            Word::Name(bytes) => {
+                let name = Name::new(bytes).ok_or(Fault::broken(fields.line))?;
+                Ok(Operand::Named(name))
+            }
+            Word::Handle(h) => Ok(Operand::Held(h)),
+            _ => Err(Fault::broken(fields.line)),
+        }
+    }
+}
+
+// One after the other.
+impl<A: Kind, B: Kind> Kind for (A, B) {
+    type Out = (A::Out, B::Out);
+
+    ghost reader = { both A.reader B.reader };
+
+    fn read(fields: &mut Fields<'_>) -> Result<(A::Out, B::Out), Fault> {
+        let a = A::read(fields)?;
+        let b = B::read(fields)?;
+        Ok((a, b))
+    }
+}
+
+pub(crate) type TwoValues = (Value, Value);
+
+pub(crate) type HandleValue = (Handle, Value);

@@ -1,0 +1,96 @@
+// What the lines read so far leave: by it the next line is judged.
+ghost use Rattle.std.specs.Prelude.{◌≡◌, false, IfOk};
+ghost use Rattle.script.specs.Rules.{fresh, full, standing, twice as is_twice, judge as judged};
+
+use crate::lookup::find;
+use crate::tally::Tally;
+use lines::Role;
+use std::alloc::{AllocError, Global};
+use std::marker::Model;
+use words::{Name, Refusal};
+
+// What the lines add up to, and the names that they declare. There is room for all names from the beginning.
+#[derive(Drop)]
+pub struct Standing {
+    tally: Tally,
+    channels: Vec<Name>,
+    bodies: Vec<Name>,
+}
+
+impl Model for Standing {
+    ghost use Rattle.std.specs.Prelude.{◌≡◌, ◌≤◌, length, vec_capacity};
+    ghost use Rattle.script.specs.Rules.{Standing};
+
+    ghost Value = { Standing };
+
+    ghost view = { λ s. record { tally = s.tally; channels = s.channels.items; bodies = s.bodies.items } };
+
+    ghost invariant = { λ s. (32 ≤ vec_capacity s.channels) × (32 ≤ vec_capacity s.bodies) × (length s.channels.items ≡ s.tally.channels) × (length s.bodies.items ≡ s.tally.bodies) };
+}
+
+impl Standing {
+    // Before the first line.
+    pub(crate) fn new(heap: Global) -> Result<Standing, AllocError>
+        ensures { IfOk result (λ s. s ≡ fresh) }
+    {
+        let channels = Vec::with_capacity(heap, 32)?;
+        let bodies = Vec::with_capacity(heap, 32)?;
+        Ok(Standing {
+            tally: Tally::default(),
+            channels,
+            bodies,
+        })
+    }
+
+    // Leaves nothing in it.
+    pub(crate) fn clear(&mut self)
+        ensures { self.new ≡ fresh }
+    {
+        self.channels.clear();
+        self.bodies.clear();
+        self.tally = Tally::default();
+    }
+
+    // Whether the line declares a name again.
+    fn twice(&self, role: &Role<Name>) -> bool
+        ensures { result ≡ is_twice self.now role.now }
+    {
+        match role {
+            Role::Declares(_, name, _) => find(&self.channels, name).is_some(),
+            Role::Opens(name) => find(&self.bodies, name).is_some(),
+            _ => false,
+        }
+    }
+
+    // Why a line of that role is refused, if it is.
+    pub(crate) fn judge(&self, role: &Role<Name>, last: bool) -> Option<Refusal>
+        ensures { result ≡ judged self.now role.now last }
+    {
+        if self.tally.misplaced(role) {
+            return Some(Refusal::Misplaced);
+        }
+        if last && self.tally.leaves_due(role) {
+            return Some(Refusal::Misplaced);
+        }
+        if self.tally.full(role) {
+            return Some(Refusal::Full);
+        }
+        if self.twice(role) {
+            return Some(Refusal::Twice);
+        }
+        None
+    }
+
+    // Takes a line of that role in.
+    pub(crate) fn take(&mut self, role: &Role<Name>)
+        requires { full self.old.tally role.now ≡ false }
+        ensures { self.new ≡ standing self.old role.now }
+    {
+        match role {
+            Role::Declares(_, name, _) => self.channels.push_reserved(*name),
+            Role::Opens(name) => self.bodies.push_reserved(*name),
+            _ => {}
+        }
+        self.tally = self.tally.after(role);
+    }
+}
