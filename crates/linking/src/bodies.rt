@@ -40,7 +40,12 @@ fn own(lines: &[Line<Name>]) -> &[Line<Name>]
 
 impl Symbols {
     // Links text line `number`, a line of that body.
-    fn link_line(&self, body: &[Line<Name>], number: usize, line: &Line<Name>) -> Result<Operation, Fault>
+    fn link_line(
+        &self,
+        body: &[Line<Name>],
+        number: usize,
+        line: &Line<Name>,
+    ) -> Result<Operation, Fault>
         ensures { result ≡ link_line self.now body.now number line.now }
     {
         let operation = self.operation(line).ok_or(Fault {

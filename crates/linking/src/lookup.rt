@@ -18,7 +18,10 @@ fn placed(channels: &[Channel], name: Name) -> Option<usize>
     ensures { result ≡ place name (map (λ c. c.name) channels.now) }
 {
     let bytes = name.as_bytes();
-    channels.iter().map(|c| c.name).position(|other| other.as_bytes() == bytes)
+    channels
+        .iter()
+        .map(|c| c.name)
+        .position(|other| other.as_bytes() == bytes)
 }
 
 // Whether that kind is wanted: any is, where none is named.
@@ -32,7 +35,9 @@ fn suits(wanted: Option<Kind>, kind: Kind) -> bool
 fn suited(channels: &[Channel], wanted: Option<Kind>, number: usize) -> bool
     ensures { result ≡ suits_at wanted (slice_get (map (λ c. c.declared) channels.now) number) }
 {
-    channels.get(number).is_some_and(|c| suits(wanted, c.declared.kind))
+    channels
+        .get(number)
+        .is_some_and(|c| suits(wanted, c.declared.kind))
 }
 
 impl Symbols {

@@ -28,7 +28,10 @@ impl Tables {
             refusal: Refusal::Unknown,
             line: 0,
         })?;
-        let Symbols { channels, bodies: _ } = symbols;
+        let Symbols {
+            channels,
+            bodies: _,
+        } = symbols;
         Ok(Tables {
             channels,
             bodies,

@@ -24,15 +24,15 @@ loop-i-preserved c =
     let i = c.loop-i.i in
     let rest = link_parts k (parts (i + 1 + 1) (drop (i + 1) ls)) in
     elim c.if-opens.branch [
-      then-opens+in_ok-link_body+in_ok-push w ↦
-        c.loop-i.invariant
-        ∙ ap (behind (vec_items c.loop-i.bodies)) (body_on k ls i c.index-lines-i.result c.loop-i-test.true c.index-lines-i.is w.own.result.now w.own.ensures w.if-opens.ensures ∙ ap (λ r. both r rest) w.in_ok-link_body.ensures)
-        ∙ behind_more (vec_items c.loop-i.bodies) w.in_ok-link_body.field-0 rest
-        ∙ ap (λ done. behind done rest) (sym w.in_ok-push.ensures.items ∙ ap vec_items (sym w.bodies-is))
+      | then-opens+in_ok-link_body+in_ok-push w ↦
+          c.loop-i.invariant
+          ∙ ap (behind (vec_items c.loop-i.bodies)) (body_on k ls i c.index-lines-i.result c.loop-i-test.true c.index-lines-i.is w.own.result.now w.own.ensures w.if-opens.ensures ∙ ap (λ r. both r rest) w.in_ok-link_body.ensures)
+          ∙ behind_more (vec_items c.loop-i.bodies) w.in_ok-link_body.field-0 rest
+          ∙ ap (λ done. behind done rest) (sym w.in_ok-push.ensures.items ∙ ap vec_items (sym w.bodies-is))
       | else-opens w ↦
-        c.loop-i.invariant
-        ∙ ap (behind (vec_items c.loop-i.bodies)) (no_body_on k ls i c.index-lines-i.result c.loop-i-test.true c.index-lines-i.is w.if-opens.ensures)
-        ∙ ap (λ done. behind done rest) (ap vec_items (sym w.bodies-is))
+          c.loop-i.invariant
+          ∙ ap (behind (vec_items c.loop-i.bodies)) (no_body_on k ls i c.index-lines-i.result c.loop-i-test.true c.index-lines-i.is w.if-opens.ensures)
+          ∙ ap (λ done. behind done rest) (ap vec_items (sym w.bodies-is))
     ]
 
 pub returns : goal.returns
