@@ -1,6 +1,5 @@
 // Linking the lines of bodies.
-ghost use Rattle.std.specs.Prelude.{◌≡◌, ◌+◌, ◌^◌, ◌<◌, length, vec_items};
-ghost use Rattle.std.specs.Prelude.{not};
+ghost use Rattle.std.specs.Prelude.{◌≡◌, ◌+◌, ◌^◌, ◌<◌, not, length, vec_items};
 ghost use Rattle.std.specs.List.{prefix_len};
 ghost use Rattle.lines.specs.Roles.{role as role_of};
 ghost use Rattle.script_laws.specs.Lawful.{is_opens};
@@ -61,16 +60,19 @@ impl Symbols {
         Ok(operation)
     }
 
-    // Links the body of those lines, which text line `line` opens.
-    fn link_body(&self, line: usize, lines: &[Line<Name>], heap: Global) -> Result<Body, Stop>
-        requires { line + length lines.now < 2 ^ 64 }
-        ensures { Makes (λ b. b) (link_part self.now (record { line = line; lines = lines.now })) result }
+    // Links the body of those lines, which text line `number` opens.
+    fn link_body(&self, number: usize, lines: &[Line<Name>], heap: Global) -> Result<Body, Stop>
+        requires { number + length lines.now < 2 ^ 64 }
+        ensures { Makes (λ b. b) (link_part self.now (record { line = number; lines = lines.now })) result }
     {
         let mut operations = Vec::with_capacity(heap, lines.len())?;
-        for (i, own) in lines.iter().enumerate() {
-            operations.push(self.link_line(lines, line + 1 + i, own)?)?;
+        for (i, line) in lines.iter().enumerate() {
+            operations.push(self.link_line(lines, number + 1 + i, line)?)?;
         }
-        Ok(Body { line, operations })
+        Ok(Body {
+            line: number,
+            operations,
+        })
     }
 
     // Links all bodies of a script's lines.

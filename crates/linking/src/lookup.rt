@@ -78,18 +78,18 @@ impl Symbols {
     fn exchange(&self, exchange: Exchange<Name>) -> Option<Exchange<usize>>
         ensures { result ≡ found_exchange self.now exchange }
     {
-        match exchange {
-            Exchange::Send(o, v) => Some(Exchange::Send(self.operand(Some(Kind::Value), o)?, v)),
+        Some(match exchange {
+            Exchange::Send(o, v) => Exchange::Send(self.operand(Some(Kind::Value), o)?, v),
             Exchange::Receive(o, v, w) => {
-                Some(Exchange::Receive(self.operand(Some(Kind::Value), o)?, v, w))
+                Exchange::Receive(self.operand(Some(Kind::Value), o)?, v, w)
             }
             Exchange::SendHandle(x, h) => {
-                Some(Exchange::SendHandle(self.channel(Some(Kind::Handle), x)?, h))
+                Exchange::SendHandle(self.channel(Some(Kind::Handle), x)?, h)
             }
             Exchange::ReceiveHandle(x, h, w) => {
-                Some(Exchange::ReceiveHandle(self.channel(Some(Kind::Handle), x)?, h, w))
+                Exchange::ReceiveHandle(self.channel(Some(Kind::Handle), x)?, h, w)
             }
-        }
+        })
     }
 
     fn alone(&self, exchange: Exchange<Name>) -> Option<Operation>
@@ -108,28 +108,28 @@ impl Symbols {
     pub(crate) fn operation(&self, line: &Line<Name>) -> Option<Operation>
         ensures { result ≡ operation self.now line.now }
     {
-        match *line {
-            Line::Set(v, n) => Some(Operation::Set(v, n)),
-            Line::Add(v, w) => Some(Operation::Add(v, w)),
-            Line::Sub(v, w) => Some(Operation::Sub(v, w)),
-            Line::Jump(t) => Some(Operation::Jump(t)),
-            Line::JumpNegative(v, t) => Some(Operation::JumpNegative(v, t)),
-            Line::Hold(h, x) => Some(Operation::Hold(h, self.channel(Some(Kind::Value), x)?)),
-            Line::Clear(h) => Some(Operation::Clear(h)),
-            Line::Send(o, v) => self.alone(Exchange::Send(o, v)),
-            Line::Receive(o, v, w) => self.alone(Exchange::Receive(o, v, w)),
-            Line::SendHandle(x, h) => self.alone(Exchange::SendHandle(x, h)),
-            Line::ReceiveHandle(x, h, w) => self.alone(Exchange::ReceiveHandle(x, h, w)),
-            Line::Close(o) => self.operand(None, o).map(Operation::Close),
-            Line::Select(n) => Some(Operation::Select(n)),
-            Line::CaseSend(o, v, t) => self.case(Exchange::Send(o, v), t),
-            Line::CaseReceive(o, v, w, t) => self.case(Exchange::Receive(o, v, w), t),
-            Line::CaseSendHandle(x, h, t) => self.case(Exchange::SendHandle(x, h), t),
-            Line::CaseReceiveHandle(x, h, w, t) => self.case(Exchange::ReceiveHandle(x, h, w), t),
-            Line::CaseDefault(t) => Some(Operation::Default(t)),
-            Line::Start(x) => self.body(x).map(Operation::Start),
-            Line::Print(v) => Some(Operation::Print(v)),
-            Line::ValueChannel(_, _) | Line::HandleChannel(_, _) | Line::Routine(_) => None,
-        }
+        Some(match *line {
+            Line::Set(v, n) => Operation::Set(v, n),
+            Line::Add(v, w) => Operation::Add(v, w),
+            Line::Sub(v, w) => Operation::Sub(v, w),
+            Line::Jump(t) => Operation::Jump(t),
+            Line::JumpNegative(v, t) => Operation::JumpNegative(v, t),
+            Line::Hold(h, x) => Operation::Hold(h, self.channel(Some(Kind::Value), x)?),
+            Line::Clear(h) => Operation::Clear(h),
+            Line::Send(o, v) => self.alone(Exchange::Send(o, v))?,
+            Line::Receive(o, v, w) => self.alone(Exchange::Receive(o, v, w))?,
+            Line::SendHandle(x, h) => self.alone(Exchange::SendHandle(x, h))?,
+            Line::ReceiveHandle(x, h, w) => self.alone(Exchange::ReceiveHandle(x, h, w))?,
+            Line::Close(o) => Operation::Close(self.operand(None, o)?),
+            Line::Select(n) => Operation::Select(n),
+            Line::CaseSend(o, v, t) => self.case(Exchange::Send(o, v), t)?,
+            Line::CaseReceive(o, v, w, t) => self.case(Exchange::Receive(o, v, w), t)?,
+            Line::CaseSendHandle(x, h, t) => self.case(Exchange::SendHandle(x, h), t)?,
+            Line::CaseReceiveHandle(x, h, w, t) => self.case(Exchange::ReceiveHandle(x, h, w), t)?,
+            Line::CaseDefault(t) => Operation::Default(t),
+            Line::Start(x) => Operation::Start(self.body(x)?),
+            Line::Print(v) => Operation::Print(v),
+            Line::ValueChannel(_, _) | Line::HandleChannel(_, _) | Line::Routine(_) => return None,
+        })
     }
 }

@@ -54,14 +54,14 @@ fn opened(line: &Line<Name>) -> Option<Name>
 fn channels(lines: &[Line<Name>], heap: Global) -> Result<Vec<Channel>, AllocError>
     ensures { IfOk result (λ found. found.items ≡ filter_map (λ l. channel_declared (role_of l)) lines.now) }
 {
-    lines.iter().filter_map(|line| declared(line)).collect(heap)
+    lines.iter().filter_map(declared).collect(heap)
 }
 
 // The names of the bodies that the lines open.
 fn bodies(lines: &[Line<Name>], heap: Global) -> Result<Vec<Name>, AllocError>
     ensures { IfOk result (λ found. found.items ≡ filter_map (λ l. opened (role_of l)) lines.now) }
 {
-    lines.iter().filter_map(|line| opened(line)).collect(heap)
+    lines.iter().filter_map(opened).collect(heap)
 }
 
 impl Symbols {

@@ -34,7 +34,7 @@ fn stands_as_case(line: &Line<Name>) -> bool
 fn out_of_reach(body: &[Line<Name>], t: usize) -> bool
     ensures { result ≡ is_wild body.now (Target t) }
 {
-    t > body.len() || body.get(t).is_some_and(|line| stands_as_case(line))
+    t > body.len() || body.get(t).is_some_and(stands_as_case)
 }
 
 // Whether a line leads to no place in its body where it may.

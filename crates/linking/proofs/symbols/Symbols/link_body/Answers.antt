@@ -9,16 +9,16 @@ returns-in_err-link_line c =
     let p = err_from_is_err_and c.from_residual-in_err-link_line.result c.from_residual-in_err-link_line.ensures.1 in
     let k = c.args.self.now in
     let ls = c.args.lines.now in
-    let on = lines_on k ls c.loop-i.i c.index-lines-i.result c.loop-i-test.true c.index-lines-i.is ls (c.args.line + 1) in
+    let on = lines_on k ls c.loop-i.i c.index-lines-i.result c.loop-i-test.true c.index-lines-i.is ls (c.args.number + 1) in
     rw (p.1, p.2)
-    (ap (blocked c.args.line) (c.loop-i.invariant ∙ ap (behind (vec_items c.loop-i.operations)) (on ∙ ap (λ r. both r (link_lines k ls (c.args.line + 1 + (c.loop-i.i + 1)) (drop (c.loop-i.i + 1) ls))) (sym c.in_err-link_line.ensures))))
+    (ap (blocked c.args.number) (c.loop-i.invariant ∙ ap (behind (vec_items c.loop-i.operations)) (on ∙ ap (λ r. both r (link_lines k ls (c.args.number + 1 + (c.loop-i.i + 1)) (drop (c.loop-i.i + 1) ls))) (sym c.in_err-link_line.ensures))))
 
 pub loop-i-preserved : goal.loop-i-preserved
 loop-i-preserved c =
     let k = c.args.self.now in
     let ls = c.args.lines.now in
-    let rest = link_lines k ls (c.args.line + 1 + (c.loop-i.i + 1)) (drop (c.loop-i.i + 1) ls) in
-    let on = lines_on k ls c.loop-i.i c.index-lines-i.result c.loop-i-test.true c.index-lines-i.is ls (c.args.line + 1) in
+    let rest = link_lines k ls (c.args.number + 1 + (c.loop-i.i + 1)) (drop (c.loop-i.i + 1) ls) in
+    let on = lines_on k ls c.loop-i.i c.index-lines-i.result c.loop-i-test.true c.index-lines-i.is ls (c.args.number + 1) in
     c.loop-i.invariant
     ∙ ap (behind (vec_items c.loop-i.operations)) (on ∙ ap (λ r. both r rest) (sym c.in_ok-link_line.ensures))
     ∙ behind_more (vec_items c.loop-i.operations) c.in_ok-link_line.field-0 rest
@@ -26,4 +26,4 @@ loop-i-preserved c =
 
 pub returns : goal.returns
 returns c =
-    ap (blocked c.args.line) (c.loop-i.invariant ∙ lines_done c.args.self.now c.args.lines.now c.args.lines.now (c.args.line + 1 + c.loop-i.i) c.loop-i.i (vec_items c.loop-i.operations) c.loop-i-test.false)
+    ap (blocked c.args.number) (c.loop-i.invariant ∙ lines_done c.args.self.now c.args.lines.now c.args.lines.now (c.args.number + 1 + c.loop-i.i) c.loop-i.i (vec_items c.loop-i.operations) c.loop-i-test.false)

@@ -4,4 +4,4 @@ use Rattle.linking.proofs.Stages.{behind}
 use Rattle.linking.proofs.symbols.Symbols.link_body.Given as goal
 
 abbrev pub invariant-loop-i : goal.invariant-loop-i
-invariant-loop-i l = link_lines l.self l.lines (l.line + 1) l.lines ≡ behind (vec_items l.operations) (link_lines l.self l.lines (l.line + 1 + l.i) (drop l.i l.lines))
+invariant-loop-i l = link_lines l.self l.lines (l.number + 1) l.lines ≡ behind (vec_items l.operations) (link_lines l.self l.lines (l.number + 1 + l.i) (drop l.i l.lines))
