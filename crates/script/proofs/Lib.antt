@@ -1,5 +1,4 @@
 pub mod Pieces
 pub mod Readings
-pub mod Relisting
 pub mod Showing
 pub mod Kept

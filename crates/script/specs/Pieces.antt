@@ -1,5 +1,5 @@
 -- One line from the front of a text.
-use Rattle.std.specs.Prelude.{◌≡◌, ℕ, ◌+◌, List, [], ◌∷◌, Some, None, Option}
+use Rattle.std.specs.Prelude.{◌≡◌, ◌+◌, [], ◌∷◌, Some, None, Option}
 use Rattle.script.specs.declared.text.Piece.{Piece}
 use Rattle.script.specs.declared.text.Pieces.{Pieces}
 use Rattle.script.specs.Texts.{pieces, none_left}

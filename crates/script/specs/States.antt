@@ -5,23 +5,17 @@ use Rattle.words.specs.declared.refusal.Refusal.TheVariants.{Small}
 use Rattle.words.specs.declared.refusal.Fault.{Fault}
 use Rattle.words.specs.Shows.{Wrote}
 use Rattle.lines.specs.declared.line.Line.{Line}
-use Rattle.script.specs.declared.state.Read.{Read}
 use Rattle.script.specs.declared.state.Unread.{Unread}
-use Rattle.script.specs.Drafts.{lines_of}
 use Rattle.script.specs.Texts.{read_script, show}
 
--- its lines
-abbrev pub script_of : Read → List (Line (List ℕ))
-script_of s = lines_of s.draft
-
-abbrev pub answer : Result Read Unread → Result (List (Line (List ℕ))) Fault
-answer (Ok s) = Ok (script_of s)
+abbrev pub answer : Result (List (Line (List ℕ))) Unread → Result (List (Line (List ℕ))) Fault
+answer (Ok ls) = Ok ls
 answer (Err u) = Err u.fault
 
 -- a script that was read from a text is listed as that text, which reads as the same script
-pub record ListedBack (s : Read) (t : List ℕ) : Type 0 where
-  pub same_text : show (script_of s) ≡ t
-  pub same_script : read_script (show (script_of s)) ≡ Ok (script_of s)
+pub record ListedBack (ls : List (Line (List ℕ))) (t : List ℕ) : Type 0 where
+  pub same_text : show ls ≡ t
+  pub same_script : read_script (show ls) ≡ Ok ls
 
 -- the text stands at the front of what there was, if it fits; else nothing changed
 pub record Printed (out t out' : List ℕ) (r : Result ℕ Refusal) : Type 0 where

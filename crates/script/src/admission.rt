@@ -1,18 +1,19 @@
 // Taking one line more into a draft, or refusing it.
 ghost use Rattle.std.specs.Prelude.{◌≡◌, false, IfOk};
+ghost use Rattle.lines.specs.Roles.{role};
 ghost use Rattle.script.specs.Rules.{full};
-ghost use Rattle.script.specs.Drafts.{Blank, Added, Admits};
+ghost use Rattle.script.specs.Drafts.{blank, added, Admits};
 
 use crate::draft::Draft;
 use crate::standing::Standing;
-use lines::{Line, Operand, Role};
+use lines::{Line, Operand};
 use std::alloc::{AllocError, Global};
 use words::{Fault, Name};
 
 impl Draft {
     // A draft with nothing in it.
     pub(crate) fn new(heap: Global) -> Result<Draft, AllocError>
-        ensures { IfOk result Blank }
+        ensures { IfOk result (λ d. d ≡ blank) }
     {
         let lines = Vec::with_capacity(heap, 576)?;
         let standing = Standing::new(heap)?;
@@ -21,20 +22,27 @@ impl Draft {
 
     // Leaves nothing in it.
     pub(crate) fn clear(&mut self)
-        ensures { Blank self.new }
+        ensures { self.new ≡ blank }
     {
         self.lines.clear();
         self.standing.clear();
     }
 
+    // Its lines, in order.
+    pub(crate) fn lines(&self) -> &[Line<Name>]
+        ensures { result.now ≡ self.now.lines }
+    {
+        self.lines.as_slice()
+    }
+
     // Takes the line in.
-    fn add(&mut self, line: &Line<Name>, role: &Role<Name>)
-        requires { full self.old.standing.tally role.now ≡ false }
-        ensures { Added self.old line.now role.now self.new }
+    fn add(&mut self, line: &Line<Name>)
+        requires { full self.old.standing.tally (role line.now) ≡ false }
+        ensures { self.new ≡ added self.old line.now }
     {
         // the check has to be told that a line has operands
         let _operand: Option<Operand<Name>> = None;
-        self.standing.take(role);
+        self.standing.take(&line.role());
         self.lines.push_reserved(*line);
     }
 
@@ -47,14 +55,13 @@ impl Draft {
     ) -> Result<(), Fault>
         ensures { Admits self.old line.now number last self.new result }
     {
-        let role = line.role();
-        if let Some(refusal) = self.standing.judge(&role, last) {
+        if let Some(refusal) = self.standing.judge(&line.role(), last) {
             return Err(Fault {
                 refusal,
                 line: number,
             });
         }
-        self.add(line, &role);
+        self.add(line);
         Ok(())
     }
 }

@@ -1,8 +1,7 @@
-// A script in the making: its lines, and what they leave.
-ghost use Rattle.std.specs.Prelude.{◌≡◌, ◌+◌, ◌≤◌, vec_len, vec_capacity};
-
+// A script in the making: its lines, and what they leave. A contract sees these two.
 use crate::standing::Standing;
 use lines::Line;
+use std::marker::Model;
 use words::Name;
 
 // The room for everything that a script can hold is there from the beginning.
@@ -10,9 +9,15 @@ use words::Name;
 pub struct Draft {
     pub(crate) lines: Vec<Line<Name>>,
     pub(crate) standing: Standing,
-    ghost roomy: { 576 ≤ vec_capacity lines },
-    ghost counted: { vec_len lines ≡ standing.tally.channels + standing.tally.bodies + standing.tally.lines },
-    ghost small: { standing.tally.channels ≤ 32 },
-    ghost short: { standing.tally.bodies ≤ 32 },
-    ghost brief: { standing.tally.lines ≤ 512 },
+}
+
+impl Model for Draft {
+    ghost use Rattle.std.specs.Prelude.{◌≤◌, length, vec_capacity};
+    ghost use Rattle.script.specs.Drafts.{Made, Within};
+
+    ghost Value = { Made };
+
+    ghost view = { λ d. record { lines = d.lines.items; standing = d.standing } };
+
+    ghost invariant = { λ d. (576 ≤ vec_capacity d.lines) × Within d.standing.tally (length d.lines.items) };
 }

@@ -2,8 +2,9 @@
 ghost use Rattle.std.specs.Prelude.{◌≡◌, ◌+◌, ◌≤◌, [], ◌∷◌, ◌++◌, length};
 ghost use Rattle.words.specs.Shows.{Wrote};
 ghost use Rattle.lines.specs.Shows.{show_line};
+ghost use Rattle.script.specs.Kept.{Kept};
 ghost use Rattle.script.specs.Texts.{show};
-ghost use Rattle.script.specs.States.{script_of, Printed, Ends};
+ghost use Rattle.script.specs.States.{Printed, Ends};
 
 use crate::state::Read;
 use lines::{Line, put_line};
@@ -22,20 +23,21 @@ fn put_ended(out: &mut [u8], at: usize, line: Line<Name>) -> Result<usize, Refus
 impl Read {
     // Its lines, in order.
     pub fn lines(&self) -> &[Line<Name>]
-        ensures { result.now ≡ script_of self.now }
+        ensures lines { result.now ≡ self.now }
+        ensures kept { ∥ Kept self.now ∥₁ }
     {
-        self.draft.lines.as_slice()
+        self.draft.lines()
     }
 
     // Writes the text of the script at the front of `out`, and answers its length.
     pub fn list(&self, out: &mut [u8]) -> Result<usize, Refusal>
-        ensures { Printed out.old (show (script_of self.now)) out.new result }
+        ensures { Printed out.old (show self.now) out.new result }
     {
         if out.len() < self.size {
             return Err(Refusal::Small);
         }
         let mut at = 0;
-        for line in self.draft.lines.iter() {
+        for line in self.draft.lines() {
             at = put_ended(out, at, *line)?;
         }
         Ok(at)

@@ -1,7 +1,7 @@
 // Reading a text into an empty script.
 ghost use Rattle.std.specs.Prelude.{◌≡◌, IfOk};
 ghost use Rattle.script.specs.Texts.{read_script};
-ghost use Rattle.script.specs.Drafts.{Blank};
+ghost use Rattle.script.specs.Drafts.{blank};
 ghost use Rattle.script.specs.States.{answer, ListedBack};
 
 use crate::draft::Draft;
@@ -12,7 +12,7 @@ use words::{Fault, Refusal};
 impl Empty {
     // An empty script, unless memory is wanting.
     pub fn new(heap: Global) -> Result<Empty, AllocError>
-        ensures { IfOk result (λ e. Blank e.draft) }
+        ensures { IfOk result (λ e. e.draft ≡ blank) }
     {
         let draft = Draft::new(heap)?;
         Ok(Empty { draft })

@@ -1,29 +1,37 @@
 // The states of a script: empty, and read. Each is moved into the next.
-ghost use Rattle.std.specs.Prelude.{◌≡◌, [], length};
-ghost use Rattle.script.specs.Drafts.{lines_of};
-ghost use Rattle.script.specs.Rules.{fresh};
-ghost use Rattle.script.specs.Kept.{Kept};
-ghost use Rattle.script.specs.Texts.{show};
+ghost use Rattle.std.specs.Prelude.{◌≡◌};
+ghost use Rattle.script.specs.Drafts.{blank};
 
 use crate::draft::Draft;
+use std::marker::Model;
 use words::Fault;
 
 // A script with nothing in it, and room for all that a script can hold.
 #[derive(Drop)]
 pub struct Empty {
     pub(crate) draft: Draft,
-    ghost none: { lines_of draft ≡ [] },
-    ghost unfilled: { draft.standing ≡ fresh },
+    ghost none: { draft ≡ blank },
 }
 
-// A script as it was read.
+// A script as it was read. A contract sees its lines.
 #[derive(Drop)]
 pub struct Read {
     pub(crate) draft: Draft,
     // how many bytes its text has
     pub(crate) size: usize,
-    ghost sized: { size ≡ length (show (lines_of draft)) },
-    ghost kept: { ∥ Kept (lines_of draft) ∥₁ },
+}
+
+impl Model for Read {
+    ghost use Rattle.std.specs.Prelude.{◌≡◌, ℕ, List, length};
+    ghost use Rattle.lines.specs.declared.line.Line.{Line};
+    ghost use Rattle.script.specs.Kept.{Kept};
+    ghost use Rattle.script.specs.Texts.{show};
+
+    ghost Value = { List (Line (List ℕ)) };
+
+    ghost view = { λ s. s.draft.lines };
+
+    ghost invariant = { λ s. (s.size ≡ length (show s.draft.lines)) × ∥ Kept s.draft.lines ∥₁ };
 }
 
 // A refused reading: the script, empty as before, and why.

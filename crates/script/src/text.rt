@@ -34,6 +34,7 @@ impl<'a> Iterator for Pieces<'a> {
 
     ghost remaining = { λ s. at_most (length s.rest.now) };
 
+    #[tactic(auto, using(crate::proofs::Pieces::no_piece, crate::proofs::Pieces::cut_piece, crate::proofs::Pieces::none_pieces))]
     fn next(&mut self) -> Option<Piece<'a>> {
         if self.rest.is_empty() {
             return None;

@@ -12,8 +12,7 @@ use Rattle.script.specs.Rules.{Standing, fresh, standing}
 use Rattle.script.specs.Texts.{onto, pieces, none_left, read_piece, admitted, judged, read_on, show}
 use Rattle.script.proofs.Pieces.{piece_line}
 use Rattle.script.specs.Kept.{Admitted}
-use Rattle.script.proofs.Kept.{read_kept}
-use Rattle.script.proofs.Relisting.{script_lists_back}
+use Rattle.script.proofs.Kept.{script_lists_back, read_kept}
 use Rattle.script_laws.specs.Laws.{AcceptsKept, AcceptsOnly}
 
 -- ---- from lines to their listing and back
