@@ -1,14 +1,8 @@
 -- What linking makes of a script, and of a body of it.
-use Rattle.std.specs.Prelude.{◌≡◌, map, Ok, Err, vec_items, Result}
+use Rattle.std.specs.Prelude.{◌≡◌, Ok, Err, Result}
 use Rattle.words.specs.declared.refusal.Fault.{Fault}
 use Rattle.linking.specs.declared.stop.Stop.{Stop}
 use Rattle.linking.specs.declared.stop.Stop.TheVariants.{Faulty, Memory}
-use Rattle.linking.specs.declared.tables.Tables.{Tables}
-use Rattle.linking.specs.Programs.{Program}
-
--- the tables as a program; running needs no names
-abbrev pub program_of : Tables → Program
-program_of t = record { channels = map (λ c. c.declared) (vec_items t.channels); bodies = vec_items t.bodies; main = t.main }
 
 -- the fault met is the one wanted; of want of memory nothing is said
 abbrev pub Stopped : {A : Type 0} → Result A Fault → Stop → Type 0
