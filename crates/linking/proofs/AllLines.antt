@@ -7,19 +7,17 @@ use Rattle.std.proofs.lemmas.Bool.{or_from, le-ltb}
 use Rattle.std.proofs.lemmas.Option.{slice_get-map}
 use Rattle.lines.specs.declared.line.Operand.{Operand}
 use Rattle.lines.specs.declared.line.Operand.TheVariants.{Named, Held}
-use Rattle.lines.specs.Roles.{role}
 use Rattle.script.specs.Rules.{place}
-use Rattle.script_laws.specs.Lawful as law
 use Rattle.lines.specs.declared.line.Kind.{Kind}
 use Rattle.lines.specs.declared.line.Kind.TheVariants.{Value, Handle}
 use Rattle.linking.specs.declared.operation.Operation.{Operation}
-use Rattle.linking.specs.declared.operation.Operation.TheVariants.{Set, Add, Sub, Jump, JumpNegative, Hold, Clear, Alone, Select, Case, Default, Close, Start, Print}
+use Rattle.linking.specs.declared.operation.Operation.TheVariants.{Hold, Alone, Case, Close, Start}
 use Rattle.linking.specs.declared.operation.Exchange.{Exchange}
 use Rattle.linking.specs.declared.operation.Exchange.TheVariants.{Send, Receive, SendHandle, ReceiveHandle}
 use Rattle.linking.specs.Naming.{Known, channel, operand, operation}
 use Rattle.linking.specs.Parts.{target, case_line, wild}
 use Rattle.linking.specs.Links.{both, settled, link_line, link_lines}
-use Rattle.linking.specs.Sound.{is_case, leads, Uses, UsesOperand, SoundExchange, SoundOperation, a_case, Lands}
+use Rattle.linking.specs.Sound.{leads, Uses, UsesOperand, SoundExchange, SoundOperation, a_case, Lands}
 use Rattle.linking.proofs.Named.{leads_named, case_named}
 use Rattle.linking.specs.Meaning.{name_at, named_operand, named}
 

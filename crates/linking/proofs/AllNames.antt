@@ -1,7 +1,6 @@
 -- Each number is found again by its name, since no two names are equal.
-use Rattle.std.proofs.Common.{◌≡◌, ℕ, zero, suc, ◌+◌, ◌<◌, Bool, true, false, cond, ltb, List, [], ◌∷◌, ◌++◌, map, length, get_or, Some, None, Option, sym, refl, ap, ◌∙◌, subst, arith}
+use Rattle.std.proofs.Common.{◌≡◌, ℕ, zero, suc, ◌<◌, Bool, true, false, cond, ltb, List, [], ◌∷◌, ◌++◌, map, length, get_or, Some, None, Option, sym, refl, ap, ◌∙◌, subst, arith}
 use Rattle.std.specs.List.{slice_get, flat_map, position_or_len, cons_option}
-use Rattle.std.specs.Option.{option_to_list}
 use Rattle.std.specs.Str.{bytes_eq}
 use Rattle.std.proofs.ByRecursion.{All-get_or}
 use Rattle.std.proofs.lemmas.Slice.Eq.{bytes_eq-Decides}
@@ -11,17 +10,17 @@ use Rattle.std.proofs.lemmas.Bool.{cond-true, false≢true, lt-ltb}
 use Rattle.std.proofs.lemmas.Option.{slice_get_within}
 use Rattle.lines.specs.declared.line.Kind.{Kind}
 use Rattle.lines.specs.declared.line.Role.{Role}
-use Rattle.lines.specs.declared.line.Role.TheVariants.{Declares, Opens, Selects, Acts, Case, Default}
+use Rattle.lines.specs.declared.line.Role.TheVariants.{Declares, Opens}
 use Rattle.lines.specs.declared.line.Line.{Line}
 use Rattle.lines.specs.Roles.{role}
 use Rattle.script.specs.Rules.{place, opens}
 use Rattle.script.specs.Kept.{Kept}
-use Rattle.script_laws.specs.Lawful.{is_opens, channel_name, body_name, Distinct, roles}
+use Rattle.script_laws.specs.Lawful.{channel_name, body_name, Distinct, roles}
 use Rattle.script_laws.proofs.Whole.{admitted_lawful}
 use Rattle.linking.specs.declared.declared.Declared.{Declared}
 use Rattle.linking.specs.declared.declared.Channel.{Channel}
 use Rattle.linking.specs.Naming.{declared, named_channels, known, channels, channel_names, body_names, suited, of_kind, channel}
-use Rattle.linking.specs.Parts.{own, parts}
+use Rattle.linking.specs.Parts.{parts}
 use Rattle.linking.specs.Sound.{Uses}
 use Rattle.linking.specs.Meaning.{name_at}
 use Rattle.linking.proofs.Totals.{names_counted, parts_counted}

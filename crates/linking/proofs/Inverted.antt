@@ -1,5 +1,5 @@
 -- What a script that was linked was linked from: line by line, and body by body.
-use Rattle.std.proofs.Common.{◌≡◌, ℕ, ◌+◌, Bool, true, false, List, [], ◌∷◌, Some, None, Ok, Err, Option, Result, refl, ap, subst, arith}
+use Rattle.std.proofs.Common.{◌≡◌, ℕ, ◌+◌, Bool, true, false, List, [], ◌∷◌, Some, None, Ok, Err, Option, Result, refl, ap, subst}
 use Rattle.words.specs.declared.refusal.Fault.{Fault}
 use Rattle.lines.specs.declared.line.Line.{Line}
 use Rattle.linking.specs.declared.declared.Declared.{Declared}
@@ -9,7 +9,6 @@ use Rattle.linking.specs.Naming.{Known, operation}
 use Rattle.linking.specs.Parts.{Part, target, wild}
 use Rattle.linking.specs.Links.{settled, link_line, both, link_lines, blocked, link_part, link_parts, with_main}
 use Rattle.std.specs.List.{AllZip}
-use Rattle.std.proofs.lemmas.Slice.Zip.{AllZip-long}
 
 ok_same : {X : Type 0} {x y : X} → ◌≡◌ {A = Result X Fault} (Ok x) (Ok y) → x ≡ y
 ok_same p = cc

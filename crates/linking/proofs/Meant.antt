@@ -1,5 +1,5 @@
 -- A line and the operation that it stands for.
-use Rattle.std.proofs.Common.{◌≡◌, ℕ, ◌<◌, ◌≤◌, Bool, true, false, cond, List, length, Some, None, Option, refl, ap, ◌∙◌, subst}
+use Rattle.std.proofs.Common.{◌≡◌, ℕ, ◌<◌, ◌≤◌, List, length, Some, None, Option, refl, ap, ◌∙◌, subst}
 use Rattle.std.specs.List.{slice_get}
 use Rattle.std.specs.Option.{option_map}
 use Rattle.words.specs.Words.{Sound}
@@ -19,8 +19,7 @@ use Rattle.linking.specs.declared.operation.Operation.TheVariants.{Hold, Alone, 
 use Rattle.linking.specs.declared.operation.Exchange.{Exchange}
 use Rattle.linking.specs.declared.operation.Exchange.TheVariants.{Send, Receive, SendHandle, ReceiveHandle}
 use Rattle.linking.specs.Naming.{Known, suited, of_kind, channel, operand, operation}
-use Rattle.linking.specs.Parts.{target}
-use Rattle.linking.specs.Sound.{is_case, asks, leads, Uses, UsesOperand, SoundOperation}
+use Rattle.linking.specs.Sound.{Uses, UsesOperand, SoundOperation}
 use Rattle.linking.specs.Meaning.{name_at, named_operand, named}
 use Rattle.std.proofs.lemmas.Option.{none-some, same_Some, cond_some}
 use Rattle.linking.proofs.Found.{mapped_back, place_back}

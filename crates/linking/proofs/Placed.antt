@@ -6,7 +6,7 @@ use Rattle.std.proofs.lemmas.List.Sums.{sum_by-cons}
 use Rattle.std.proofs.lemmas.Bool.{cond_both}
 use Rattle.lines.specs.declared.line.Line.{Line}
 use Rattle.lines.specs.declared.line.Role.{Role}
-use Rattle.lines.specs.declared.line.Role.TheVariants.{Declares, Opens, Selects, Acts, Case, Default}
+use Rattle.lines.specs.declared.line.Role.TheVariants.{Declares}
 use Rattle.lines.specs.Roles.{role}
 use Rattle.script_laws.specs.Lawful.{is_declares, is_opens, is_body, roles, Lawful}
 use Rattle.linking.specs.Parts.{own, parts}

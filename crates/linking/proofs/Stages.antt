@@ -10,7 +10,7 @@ use Rattle.linking.specs.declared.stop.Stop.{Stop}
 use Rattle.linking.specs.declared.stop.Stop.TheVariants.{Faulty, Memory}
 use Rattle.linking.specs.Programs.{Block}
 use Rattle.linking.specs.Naming.{Known}
-use Rattle.linking.specs.Parts.{Part, own, parts}
+use Rattle.linking.specs.Parts.{own, parts}
 use Rattle.linking.specs.Links.{both, link_line, link_lines, link_part, link_parts}
 use Rattle.linking.specs.Stages.{Stopped}
 

@@ -5,7 +5,7 @@ use Rattle.std.proofs.lemmas.List.Sums.{sum_by-cons}
 use Rattle.lines.specs.declared.line.Kind.{Kind}
 use Rattle.lines.specs.declared.line.Line.{Line}
 use Rattle.lines.specs.declared.line.Role.{Role}
-use Rattle.lines.specs.declared.line.Role.TheVariants.{Declares, Opens, Selects, Acts, Case, Default}
+use Rattle.lines.specs.declared.line.Role.TheVariants.{Declares, Opens}
 use Rattle.lines.specs.Roles.{role}
 use Rattle.script.specs.Rules.{opens}
 use Rattle.script_laws.specs.Lawful.{is_declares, is_opens, capacity, capacity_of, roles}

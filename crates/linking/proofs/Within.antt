@@ -5,7 +5,7 @@ use Rattle.std.proofs.ByRecursion.{All-take}
 use Rattle.std.proofs.lemmas.Bool.{cond_both, false≢true}
 use Rattle.lines.specs.declared.line.Line.{Line}
 use Rattle.lines.specs.declared.line.Role.{Role}
-use Rattle.lines.specs.declared.line.Role.TheVariants.{Declares, Opens, Selects, Acts, Case, Default}
+use Rattle.lines.specs.declared.line.Role.TheVariants.{Opens}
 use Rattle.lines.specs.Roles.{role}
 use Rattle.lines.specs.Shows.{Good}
 use Rattle.script_laws.specs.Lawful.{is_opens, is_case, asks, Everywhere, Followed, roles}

@@ -5,11 +5,11 @@ use Rattle.std.specs.Option.{option_map}
 use Rattle.lines.specs.declared.line.Kind.{Kind}
 use Rattle.lines.specs.declared.line.Kind.TheVariants.{Value, Handle}
 use Rattle.lines.specs.declared.line.Role.{Role}
-use Rattle.lines.specs.declared.line.Role.TheVariants.{Declares, Opens, Selects, Acts, Case as CaseRole, Default as DefaultRole}
+use Rattle.lines.specs.declared.line.Role.TheVariants.{Declares}
 use Rattle.lines.specs.declared.line.Operand.{Operand}
 use Rattle.lines.specs.declared.line.Operand.TheVariants.{Named, Held}
 use Rattle.lines.specs.declared.line.Line.{Line}
-use Rattle.lines.specs.declared.line.Line.TheVariants.{Set, Add, Sub, Jump, JumpNegative, Hold, Clear, Send, Receive, SendHandle, ReceiveHandle, Close, Select, CaseSend, CaseReceive, CaseSendHandle, CaseReceiveHandle, CaseDefault, Start, Print, ValueChannel, HandleChannel, Routine}
+use Rattle.lines.specs.declared.line.Line.TheVariants.{Set, Add, Sub, Jump, JumpNegative, Hold, Clear, Send, Receive, SendHandle, ReceiveHandle, Close, Select, CaseSend, CaseReceive, CaseSendHandle, CaseReceiveHandle, CaseDefault, Start, Print}
 use Rattle.lines.specs.Roles.{role}
 use Rattle.script.specs.Rules.{place, opens}
 use Rattle.linking.specs.declared.declared.Declared.{Declared}

@@ -2,7 +2,7 @@
 use Rattle.std.specs.Prelude.{ℕ, ◌+◌, Bool, false, cond, not, ◌||◌, List, [], ◌∷◌, length, take, Some, None, Option, nat_lt}
 use Rattle.std.specs.List.{slice_get, prefix_len}
 use Rattle.lines.specs.declared.line.Line.{Line}
-use Rattle.lines.specs.declared.line.Line.TheVariants.{Set, Add, Sub, Jump, JumpNegative, Hold, Clear, Send, Receive, SendHandle, ReceiveHandle, Close, Select, CaseSend, CaseReceive, CaseSendHandle, CaseReceiveHandle, CaseDefault, Start, Print, ValueChannel, HandleChannel, Routine}
+use Rattle.lines.specs.declared.line.Line.TheVariants.{Jump, JumpNegative, CaseSend, CaseReceive, CaseSendHandle, CaseReceiveHandle, CaseDefault}
 use Rattle.lines.specs.Roles.{role}
 use Rattle.script_laws.specs.Lawful.{is_opens, is_case}
 
