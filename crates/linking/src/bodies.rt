@@ -60,7 +60,8 @@ impl Symbols {
         Ok(operation)
     }
 
-    // Links the body of those lines, which text line `number` opens.
+    // Links the body of those lines, which text line `number` opens. A loop, since by `try_collect` no proof closed of
+    // which fault comes first.
     fn link_body(&self, number: usize, lines: &[Line<Name>], heap: Global) -> Result<Body, Stop>
         requires { number + length lines.now < 2 ^ 64 }
         ensures { Makes (λ b. b) (link_part self.now (record { line = number; lines = lines.now })) result }

@@ -1,9 +1,10 @@
 // Looking up what the names of a line stand for.
 ghost use Rattle.std.specs.Prelude.{◌≡◌, map};
 ghost use Rattle.std.specs.List.{slice_get};
-ghost use Rattle.std.specs.Option.{option_map};
 ghost use Rattle.script.specs.Rules.{place};
-ghost use Rattle.linking.specs.Naming.{suits as is_suited, suited as suits_at, channel as channel_of, operand as found_operand, exchange as found_exchange, alone as alone_of, case as case_of, operation};
+ghost use Rattle.linking.specs.Naming.{suits as is_suited, suited as suits_at, channel as channel_of};
+ghost use Rattle.linking.specs.Naming.{operand as found_operand, exchange as found_exchange};
+ghost use Rattle.linking.specs.Naming.{alone as alone_of, case as case_of, operation};
 ghost use Rattle.linking.specs.Links.{main_name};
 
 use crate::declared::Channel;
@@ -13,7 +14,7 @@ use lines::{Kind, Line, Operand};
 use script::find;
 use words::Name;
 
-// The number of the channel of that name.
+// The number of the channel of that name. Bytes are compared, since of `==` on names no proof closed with `place`.
 fn placed(channels: &[Channel], name: Name) -> Option<usize>
     ensures { result ≡ place name (map (λ c. c.name) channels.now) }
 {

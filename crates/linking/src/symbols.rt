@@ -1,9 +1,8 @@
 // What the names of a script stand for.
 ghost use Rattle.std.specs.Prelude.{◌≡◌, IfOk};
-ghost use Rattle.std.specs.List.{filter_map};
 ghost use Rattle.lines.specs.Roles.{role as role_of};
 ghost use Rattle.script.specs.Rules.{opens as opened};
-ghost use Rattle.linking.specs.Naming.{declared as channel_declared, known};
+ghost use Rattle.linking.specs.Naming.{declared as channel_declared, named_channels, body_names, known};
 
 use crate::declared::{Channel, Declared};
 use lines::{Line, Role};
@@ -24,7 +23,11 @@ impl Model for Symbols {
 
     ghost Value = { Known };
 
-    ghost view = { λ s. record { names = map (λ c. c.name) s.channels.items; channels = map (λ c. c.declared) s.channels.items; bodies = s.bodies.items } };
+    ghost view = { λ s. record {
+      names = map (λ c. c.name) s.channels.items;
+      channels = map (λ c. c.declared) s.channels.items;
+      bodies = s.bodies.items;
+    } };
 }
 
 // The channel that a line declares, if it declares one.
@@ -52,14 +55,14 @@ fn opened(line: &Line<Name>) -> Option<Name>
 
 // The channels that the lines declare.
 fn channels(lines: &[Line<Name>], heap: Global) -> Result<Vec<Channel>, AllocError>
-    ensures { IfOk result (λ found. found.items ≡ filter_map (λ l. channel_declared (role_of l)) lines.now) }
+    ensures { IfOk result (λ found. found.items ≡ named_channels lines.now) }
 {
     lines.iter().filter_map(declared).collect(heap)
 }
 
 // The names of the bodies that the lines open.
 fn bodies(lines: &[Line<Name>], heap: Global) -> Result<Vec<Name>, AllocError>
-    ensures { IfOk result (λ found. found.items ≡ filter_map (λ l. opened (role_of l)) lines.now) }
+    ensures { IfOk result (λ found. found.items ≡ body_names lines.now) }
 {
     lines.iter().filter_map(opened).collect(heap)
 }
