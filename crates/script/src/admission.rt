@@ -40,7 +40,7 @@ impl Draft {
         requires { full self.old.standing.tally (role line.now) ≡ false }
         ensures { self.new ≡ added self.old line.now }
     {
-        // the check has to be told that a line has operands
+        // the check loads the type of a line's operands only where it is named (else: "not told which modules hold the type")
         let _operand: Option<Operand<Name>> = None;
         self.standing.take(&line.role());
         self.lines.push_reserved(*line);

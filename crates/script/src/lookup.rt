@@ -8,6 +8,8 @@ use words::Name;
 pub fn find(names: &[Name], name: &Name) -> Option<usize>
     ensures { result ≡ place name.now names.now }
 {
-    let bytes = name.as_bytes();
-    names.iter().position(|other| other.as_bytes() == bytes)
+    // not `other == name`: tried, and its contract compares the letters filled up with zeros, by which [] is [0] too
+    names
+        .iter()
+        .position(|other| other.as_bytes() == name.as_bytes())
 }

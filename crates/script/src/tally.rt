@@ -7,7 +7,7 @@ use words::Name;
 
 #[derive(Clone, Copy, Default)]
 pub struct Tally {
-    // channels and bodies declared, and lines of bodies
+    // channels and bodies declared, and lines of bodies: not left to the lists of them, since the rules are of a tally alone
     pub channels: usize,
     pub bodies: usize,
     pub lines: usize,
@@ -74,7 +74,7 @@ impl Tally {
         }
     }
 
-    // Whether case lines are still due after a line of that role.
+    // Whether case lines are still due after a line of that role. It may pass a limit, which `after` may not.
     pub(crate) fn leaves_due(self, role: &Role<Name>) -> bool
         ensures { result ≡ nat_lt 0 (after_line self role.now).due }
     {

@@ -68,7 +68,7 @@ impl Draft {
     fn read_one(&mut self, piece: Piece<'_>) -> Result<(), Fault>
         ensures { Reads self.old piece.entry.number piece.entry.bytes.now piece.entry.last self.new result }
     {
-        // a `?` would hold a line over a branch, for which the check makes no plan
+        // not `?`: tried, and the check makes no plan for a `Line<Name>` that is kept over the branch
         match read_piece(piece) {
             Ok(line) => self.admit(&line, piece.number, piece.last),
             Err(fault) => Err(fault),

@@ -1,16 +1,14 @@
 -- Names that stand once.
-use Rattle.std.proofs.Common.{◌≡◌, ℕ, ◌≤◌, Bool, true, false, cond, ltb, List, [], ◌∷◌, ◌++◌, length, is_some, Some, None, Option, sym, refl, ap, ◌∙◌, subst, arith}
+use Rattle.std.proofs.Common.{◌≡◌, ℕ, ◌≤◌, Bool, true, false, cond, ltb, List, [], ◌∷◌, ◌++◌, length, is_some, Some, None, Option, sym, refl, ◌∙◌, subst, arith}
 use Rattle.std.specs.Option.{option_to_list}
-use Rattle.std.specs.List.{flat_map, position_or_len, AllByRecursion}
+use Rattle.std.specs.List.{position_or_len, AllByRecursion}
 use Rattle.std.specs.Str.{bytes_eq}
 use Rattle.std.proofs.ByRecursion.{All-push}
 use Rattle.std.proofs.lemmas.Slice.Eq.{bytes_eq-Decides}
 use Rattle.std.proofs.lemmas.List.{append-nil}
 use Rattle.std.proofs.lemmas.Bool.{both_ways, ltb-false, le-ltb}
-use Rattle.lines.specs.declared.line.Role.{Role}
-use Rattle.lines.specs.declared.line.Role.TheVariants.{Declares, Opens, Selects, Acts, Case, Default}
-use Rattle.script.specs.Rules.{place, declares, opens, known}
-use Rattle.script_laws.specs.Lawful.{channel_name, body_name, Distinct}
+use Rattle.script.specs.Rules.{place, known}
+use Rattle.script_laws.specs.Lawful.{Distinct}
 
 -- x stands nowhere in xs
 abbrev pub Absent : List ℕ → List (List ℕ) → Type 0
@@ -69,26 +67,3 @@ new_distinct (Some x) xs e d = distinct_push xs x (absent x xs e) d
 pub distinct_new : (o : Option (List ℕ)) (xs ys : List (List ℕ)) → Distinct (xs ++ (option_to_list o ++ ys)) → known o xs ≡ false
 distinct_new None xs ys d = refl
 distinct_new (Some x) xs ys d = unplaced x xs (distinct_at xs x ys d)
-
--- ---- the names of a line
-channel_listed : (r : Role (List ℕ)) → option_to_list (declares r) ≡ channel_name r
-channel_listed (Declares k x n) = refl
-channel_listed (Opens x) = refl
-channel_listed (Selects n) = refl
-channel_listed Acts = refl
-channel_listed Case = refl
-channel_listed Default = refl
-
-body_listed : (r : Role (List ℕ)) → option_to_list (opens r) ≡ body_name r
-body_listed (Declares k x n) = refl
-body_listed (Opens x) = refl
-body_listed (Selects n) = refl
-body_listed Acts = refl
-body_listed Case = refl
-body_listed Default = refl
-
-pub channels_on : (xs : List (List ℕ)) (r : Role (List ℕ)) (rs : List (Role (List ℕ))) → xs ++ (option_to_list (declares r) ++ flat_map channel_name rs) ≡ xs ++ flat_map channel_name (r ∷ rs)
-channels_on xs r rs = ap (λ l. xs ++ (l ++ flat_map channel_name rs)) (channel_listed r)
-
-pub bodies_on : (xs : List (List ℕ)) (r : Role (List ℕ)) (rs : List (Role (List ℕ))) → xs ++ (option_to_list (opens r) ++ flat_map body_name rs) ≡ xs ++ flat_map body_name (r ∷ rs)
-bodies_on xs r rs = ap (λ l. xs ++ (l ++ flat_map body_name rs)) (body_listed r)

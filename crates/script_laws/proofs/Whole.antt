@@ -16,7 +16,7 @@ use Rattle.script.specs.Texts.{none_left}
 use Rattle.script.specs.Kept.{Admitted}
 use Rattle.script_laws.specs.Lawful.{is_declares, is_case, heading, roles, capacity, asks, channel_name, body_name, Distinct, Lawful, AcceptsLawful, LawfulKept}
 use Rattle.script_laws.proofs.Kept.{accepts_only}
-use Rattle.script_laws.proofs.Names.{new_distinct, distinct_new, channels_on, bodies_on}
+use Rattle.script_laws.proofs.Names.{new_distinct, distinct_new}
 use Rattle.script_laws.proofs.Counts.{Room, room_more, room_less, room_none, small, not_full}
 use Rattle.script_laws.proofs.Shapes.{Stands, Inside, shape_none, stands_on, still_inside, stands_back}
 
@@ -87,8 +87,8 @@ ahead_on s r rs last h p a =
     record {
       room = room_more s.tally r rs a.room;
       stands = stands_on s.tally r rs h.inside p.placed a.stands;
-      channels = subst Distinct (append_assoc s.channels (option_to_list (declares r)) (flat_map channel_name rs) ∙ channels_on s.channels r rs) a.channels;
-      bodies = subst Distinct (append_assoc s.bodies (option_to_list (opens r)) (flat_map body_name rs) ∙ bodies_on s.bodies r rs) a.bodies;
+      channels = subst Distinct (append_assoc s.channels (option_to_list (declares r)) (flat_map channel_name rs)) a.channels;
+      bodies = subst Distinct (append_assoc s.bodies (option_to_list (opens r)) (flat_map body_name rs)) a.bodies;
       cells = (m.cells, a.cells);
       selects = (m.cases, a.selects);
     }
@@ -145,8 +145,8 @@ ahead_back : (s : Standing) (r : Role (List ℕ)) (rs : List (Role (List ℕ))) 
 ahead_back s r rs a = record {
   room = room_less s.tally r rs a.room;
   stands = (stands_back s.tally r rs a.stands).1;
-  channels = subst Distinct (sym (append_assoc s.channels (option_to_list (declares r)) (flat_map channel_name rs) ∙ channels_on s.channels r rs)) a.channels;
-  bodies = subst Distinct (sym (append_assoc s.bodies (option_to_list (opens r)) (flat_map body_name rs) ∙ bodies_on s.bodies r rs)) a.bodies;
+  channels = subst Distinct (sym (append_assoc s.channels (option_to_list (declares r)) (flat_map channel_name rs))) a.channels;
+  bodies = subst Distinct (sym (append_assoc s.bodies (option_to_list (opens r)) (flat_map body_name rs))) a.bodies;
   cells = a.cells.1;
   selects = a.selects.1;
 }
@@ -161,8 +161,8 @@ passed_ahead s l ls a =
       placed = st.0;
       closed = none_due_left (standing s r) ls st.1;
       fits = not_full s.tally r (record { room = room; cells = a.cells.0; cases = a.selects.0 });
-      channel = distinct_new (declares r) s.channels (flat_map channel_name rs) (subst Distinct (sym (channels_on s.channels r rs)) a.channels);
-      body = distinct_new (opens r) s.bodies (flat_map body_name rs) (subst Distinct (sym (bodies_on s.bodies r rs)) a.bodies);
+      channel = distinct_new (declares r) s.channels (flat_map channel_name rs) a.channels;
+      body = distinct_new (opens r) s.bodies (flat_map body_name rs) a.bodies;
     }
 
 admitted_ahead : (s : Standing) (ls : List (Line (List ℕ))) → Ahead s (roles ls) → Admitted s ls

@@ -1,5 +1,6 @@
 -- The rules of a whole script, by how its lines stand in it.
 use Rattle.std.specs.Prelude.{◌≡◌, ℕ, ◌≤◌, Bool, true, false, cond, not, ◌||◌, List, [], ◌∷◌, map, length, take, Ok, sum_by, count_by, ◌≢◌}
+use Rattle.std.specs.Option.{option_to_list}
 use Rattle.std.specs.List.{prefix_len, flat_map, AllByRecursion}
 use Rattle.lines.specs.declared.line.Line.{Line}
 use Rattle.lines.specs.declared.line.Kind.{Kind}
@@ -8,6 +9,7 @@ use Rattle.lines.specs.declared.line.Role.{Role}
 use Rattle.lines.specs.declared.line.Role.TheVariants.{Declares, Opens, Selects, Acts, Case, Default}
 use Rattle.lines.specs.Roles.{role}
 use Rattle.lines.specs.Shows.{Good}
+use Rattle.script.specs.Rules.{declares, opens}
 use Rattle.script.specs.Texts.{read_script, show}
 use Rattle.script.specs.Kept.{Kept}
 
@@ -52,20 +54,10 @@ is_case Default = true
 -- ---- what a line says
 -- the name that it declares for a channel, and for a body
 abbrev pub channel_name : {N : Type 0} → Role N → List N
-channel_name (Declares k x n) = x ∷ []
-channel_name (Opens x) = []
-channel_name (Selects n) = []
-channel_name Acts = []
-channel_name Case = []
-channel_name Default = []
+channel_name r = option_to_list (declares r)
 
 abbrev pub body_name : {N : Type 0} → Role N → List N
-body_name (Declares k x n) = []
-body_name (Opens x) = x ∷ []
-body_name (Selects n) = []
-body_name Acts = []
-body_name Case = []
-body_name Default = []
+body_name r = option_to_list (opens r)
 
 -- the capacity of the channel that it declares
 abbrev pub capacity : {N : Type 0} → Role N → ℕ

@@ -11,6 +11,7 @@ ghost use Rattle.script_laws.specs.Lawful.{AcceptsLawful, LawfulKept};
 use script::{Empty, Read, Unread};
 
 // Reads a text, exactly if it is the listing of a script that keeps the rules.
+#[tactic(auto, using(crate::proofs::Exact::exactly))]
 pub fn read_exactly(empty: Empty, text: &[u8]) -> Result<Read, Unread>
     ensures value { answer result ≡ read_script text.now }
     ensures exact { Exactly text.now (answer result) }

@@ -11,7 +11,7 @@ use Rattle.lines.specs.declared.line.Operand.{Operand}
 use Rattle.lines.specs.declared.line.Operand.TheVariants.{Named, Held}
 use Rattle.lines.specs.declared.line.Line.{Line}
 use Rattle.lines.specs.declared.line.Line.TheVariants.{Set, Add, Sub, Jump, JumpNegative, Hold, Clear, Send, Receive, SendHandle, ReceiveHandle, Close, Select, CaseSend, CaseReceive, CaseSendHandle, CaseReceiveHandle, CaseDefault, Start, Print, ValueChannel, HandleChannel, Routine}
-use Rattle.lines.specs.Lines.{Reader, then, read_field, kept, only, as_value, as_integer, as_natural, as_operand, as_handle, as_name, both, ended, two_values, handle_and_value, Format, whole, formats, chosen, read_line}
+use Rattle.lines.specs.Lines.{Reader, then, read_field, kept, only, as_value, as_integer, as_natural, as_operand, as_handle, as_name, both, ended, Format, whole, formats, chosen, read_line}
 use Rattle.lines.specs.Shows.{show_line, from_operand, natural, Good}
 use Rattle.lines.proofs.Marks.{no_mark, marked}
 use Rattle.text_laws.specs.Laws.{ReadsBack, ListsBack, NoEnd}
@@ -74,9 +74,11 @@ module _ {X : Type 0} (f : Said → Option X) (g : X → Said) (to : (x : X) →
     free = λ x r h u. (λ z. absurd (omega arith), free_append (show_word (g x)) r (free_word 10 (omega arith) (g x) h) u);
   }
 
-module _ {X Y : Type 0} (p : Reader X) (q : Reader Y) (s : X → List ℕ → List ℕ) (u : Y → List ℕ → List ℕ) (G : X → Type 0) (H : Y → Type 0) (a : Codec p s G) (b : Codec q u H) where
-  both_codec : Codec (both p q) (λ x r. s x.0 (u x.1 r)) (λ x. G x.0 × H x.1)
-  both_codec = record {
+-- one after the other
+module _ {X Y : Type 0} {p : Reader X} {q : Reader Y} {s : X → List ℕ → List ℕ} {u : Y → List ℕ → List ℕ} {G : X → Type 0} {H : Y → Type 0} where
+  infixr 30 ◌&◌
+  ◌&◌ : Codec p s G → Codec q u H → Codec (both p q) (λ x r. s x.0 (u x.1 r)) (λ x. G x.0 × H x.1)
+  a & b = record {
     starts = λ x r. a.starts x.0 (u x.1 r);
     there = λ n x r h st.
         ap (λ o. then o (λ v rest. then (q n rest) (λ y rest'. Ok ((v, y), rest')))) (a.there n x.0 (u x.1 r) h.0 (b.starts x.1 r))
@@ -98,7 +100,7 @@ ended_back : {X : Type 0} (n : ℕ) (x : X) (r : List ℕ) (y : X) → ended n x
 ended_back n x [] y e = (refl, ok_same e)
 ended_back n x (c ∷ r) y e = absurd (err_ok e)
 
-module _ {X : Type 0} (p : Reader X) (s : X → List ℕ → List ℕ) (G : X → Type 0) (a : Codec p s G) (make : X → Line (List ℕ)) where
+module _ {X : Type 0} {p : Reader X} {s : X → List ℕ → List ℕ} {G : X → Type 0} (a : Codec p s G) (make : X → Line (List ℕ)) where
   whole_there : (n : ℕ) (x : X) → G x → whole p make n (s x []) ≡ Ok (make x)
   whole_there n x h = ap (λ o. then o (λ v rest. ended n (make v) rest)) (a.there n x [] h refl)
 
@@ -176,158 +178,67 @@ handles = only_codec as_handle handle (λ x. refl) handle_from
 names : One as_name name
 names = only_codec as_name name (λ x. refl) name_from
 
-codec_vn : Codec (both (only as_value) (only as_integer)) (λ x r. show_onto (value x.0) (show_onto (number x.1) r)) (λ x. Sound (value x.0) × Sound (number x.1))
-codec_vn = both_codec _ _ _ _ _ _ values integers
-
-codec_vv : Codec two_values (λ x r. show_onto (value x.0) (show_onto (value x.1) r)) (λ x. Sound (value x.0) × Sound (value x.1))
-codec_vv = both_codec _ _ _ _ _ _ values values
-
-codec_vt : Codec (both (only as_value) (only as_natural)) (λ x r. show_onto (value x.0) (show_onto (natural x.1) r)) (λ x. Sound (value x.0) × Sound (natural x.1))
-codec_vt = both_codec _ _ _ _ _ _ values naturals
-
-codec_hm : Codec (both (only as_handle) (only as_name)) (λ x r. show_onto (handle x.0) (show_onto (name x.1) r)) (λ x. Sound (handle x.0) × Sound (name x.1))
-codec_hm = both_codec _ _ _ _ _ _ handles names
-
-codec_cv : Codec (both (only as_operand) (only as_value)) (λ x r. show_onto (from_operand x.0) (show_onto (value x.1) r)) (λ x. Sound (from_operand x.0) × Sound (value x.1))
-codec_cv = both_codec _ _ _ _ _ _ operands values
-
-codec_cvv : Codec (both (only as_operand) two_values) (λ x r. show_onto (from_operand x.0) (show_onto (value x.1.0) (show_onto (value x.1.1) r))) (λ x. Sound (from_operand x.0) × (Sound (value x.1.0) × Sound (value x.1.1)))
-codec_cvv = both_codec _ _ _ _ _ _ operands codec_vv
-
-codec_mh : Codec (both (only as_name) (only as_handle)) (λ x r. show_onto (name x.0) (show_onto (handle x.1) r)) (λ x. Sound (name x.0) × Sound (handle x.1))
-codec_mh = both_codec _ _ _ _ _ _ names handles
-
-codec_hv : Codec handle_and_value (λ x r. show_onto (handle x.0) (show_onto (value x.1) r)) (λ x. Sound (handle x.0) × Sound (value x.1))
-codec_hv = both_codec _ _ _ _ _ _ handles values
-
-codec_mhv : Codec (both (only as_name) handle_and_value) (λ x r. show_onto (name x.0) (show_onto (handle x.1.0) (show_onto (value x.1.1) r))) (λ x. Sound (name x.0) × (Sound (handle x.1.0) × Sound (value x.1.1)))
-codec_mhv = both_codec _ _ _ _ _ _ names codec_hv
-
-codec_cvt : Codec (both (only as_operand) (both (only as_value) (only as_natural))) (λ x r. show_onto (from_operand x.0) (show_onto (value x.1.0) (show_onto (natural x.1.1) r))) (λ x. Sound (from_operand x.0) × (Sound (value x.1.0) × Sound (natural x.1.1)))
-codec_cvt = both_codec _ _ _ _ _ _ operands codec_vt
-
-codec_vvt : Codec (both two_values (only as_natural)) (λ x r. show_onto (value x.0.0) (show_onto (value x.0.1) (show_onto (natural x.1) r))) (λ x. (Sound (value x.0.0) × Sound (value x.0.1)) × Sound (natural x.1))
-codec_vvt = both_codec _ _ _ _ _ _ codec_vv naturals
-
-codec_cvvt : Codec (both (only as_operand) (both two_values (only as_natural))) (λ x r. show_onto (from_operand x.0) (show_onto (value x.1.0.0) (show_onto (value x.1.0.1) (show_onto (natural x.1.1) r)))) (λ x. Sound (from_operand x.0) × ((Sound (value x.1.0.0) × Sound (value x.1.0.1)) × Sound (natural x.1.1)))
-codec_cvvt = both_codec _ _ _ _ _ _ operands codec_vvt
-
-codec_ht : Codec (both (only as_handle) (only as_natural)) (λ x r. show_onto (handle x.0) (show_onto (natural x.1) r)) (λ x. Sound (handle x.0) × Sound (natural x.1))
-codec_ht = both_codec _ _ _ _ _ _ handles naturals
-
-codec_mht : Codec (both (only as_name) (both (only as_handle) (only as_natural))) (λ x r. show_onto (name x.0) (show_onto (handle x.1.0) (show_onto (natural x.1.1) r))) (λ x. Sound (name x.0) × (Sound (handle x.1.0) × Sound (natural x.1.1)))
-codec_mht = both_codec _ _ _ _ _ _ names codec_ht
-
-codec_hvt : Codec (both handle_and_value (only as_natural)) (λ x r. show_onto (handle x.0.0) (show_onto (value x.0.1) (show_onto (natural x.1) r))) (λ x. (Sound (handle x.0.0) × Sound (value x.0.1)) × Sound (natural x.1))
-codec_hvt = both_codec _ _ _ _ _ _ codec_hv naturals
-
-codec_mhvt : Codec (both (only as_name) (both handle_and_value (only as_natural))) (λ x r. show_onto (name x.0) (show_onto (handle x.1.0.0) (show_onto (value x.1.0.1) (show_onto (natural x.1.1) r)))) (λ x. Sound (name x.0) × ((Sound (handle x.1.0.0) × Sound (value x.1.0.1)) × Sound (natural x.1.1)))
-codec_mhvt = both_codec _ _ _ _ _ _ names codec_hvt
-
-codec_mt : Codec (both (only as_name) (only as_natural)) (λ x r. show_onto (name x.0) (show_onto (natural x.1) r)) (λ x. Sound (name x.0) × Sound (natural x.1))
-codec_mt = both_codec _ _ _ _ _ _ names naturals
-
 -- ---- the laws
 pub reads_back : ReadsBack
-reads_back n (Set a b) h = whole_there _ _ _ codec_vn (λ p. Set p.0 p.1) n (a, b) h
-reads_back n (Add a b) h = whole_there _ _ _ codec_vv (λ p. Add p.0 p.1) n (a, b) h
-reads_back n (Sub a b) h = whole_there _ _ _ codec_vv (λ p. Sub p.0 p.1) n (a, b) h
-reads_back n (Jump a) h = whole_there _ _ _ naturals (λ p. Jump p) n a h
-reads_back n (JumpNegative a b) h = whole_there _ _ _ codec_vt (λ p. JumpNegative p.0 p.1) n (a, b) h
-reads_back n (Hold a b) h = whole_there _ _ _ codec_hm (λ p. Hold p.0 p.1) n (a, b) h
-reads_back n (Clear a) h = whole_there _ _ _ handles (λ p. Clear p) n a h
-reads_back n (Send a b) h = whole_there _ _ _ codec_cv (λ p. Send p.0 p.1) n (a, b) h
-reads_back n (Receive a b c) h = whole_there _ _ _ codec_cvv (λ p. Receive p.0 p.1.0 p.1.1) n (a, (b, c)) h
-reads_back n (SendHandle a b) h = whole_there _ _ _ codec_mh (λ p. SendHandle p.0 p.1) n (a, b) h
-reads_back n (ReceiveHandle a b c) h = whole_there _ _ _ codec_mhv (λ p. ReceiveHandle p.0 p.1.0 p.1.1) n (a, (b, c)) h
-reads_back n (Close a) h = whole_there _ _ _ operands (λ p. Close p) n a h
-reads_back n (Select a) h = whole_there _ _ _ naturals (λ p. Select p) n a h
-reads_back n (CaseSend a b c) h = whole_there _ _ _ codec_cvt (λ p. CaseSend p.0 p.1.0 p.1.1) n (a, (b, c)) h
-reads_back n (CaseReceive a b c d) h = whole_there _ _ _ codec_cvvt (λ p. CaseReceive p.0 p.1.0.0 p.1.0.1 p.1.1) n (a, ((b, c), d)) h
-reads_back n (CaseSendHandle a b c) h = whole_there _ _ _ codec_mht (λ p. CaseSendHandle p.0 p.1.0 p.1.1) n (a, (b, c)) h
-reads_back n (CaseReceiveHandle a b c d) h = whole_there _ _ _ codec_mhvt (λ p. CaseReceiveHandle p.0 p.1.0.0 p.1.0.1 p.1.1) n (a, ((b, c), d)) h
-reads_back n (CaseDefault a) h = whole_there _ _ _ naturals (λ p. CaseDefault p) n a h
-reads_back n (Start a) h = whole_there _ _ _ names (λ p. Start p) n a h
-reads_back n (Print a) h = whole_there _ _ _ values (λ p. Print p) n a h
-reads_back n (ValueChannel a b) h = whole_there _ _ _ codec_mt (λ p. ValueChannel p.0 p.1) n (a, b) h
-reads_back n (HandleChannel a b) h = whole_there _ _ _ codec_mt (λ p. HandleChannel p.0 p.1) n (a, b) h
-reads_back n (Routine a) h = whole_there _ _ _ names (λ p. Routine p) n a h
+reads_back n (Set a b) h = whole_there (values & integers) (λ p. Set p.0 p.1) n (a, b) h
+reads_back n (Add a b) h = whole_there (values & values) (λ p. Add p.0 p.1) n (a, b) h
+reads_back n (Sub a b) h = whole_there (values & values) (λ p. Sub p.0 p.1) n (a, b) h
+reads_back n (Jump a) h = whole_there naturals (λ p. Jump p) n a h
+reads_back n (JumpNegative a b) h = whole_there (values & naturals) (λ p. JumpNegative p.0 p.1) n (a, b) h
+reads_back n (Hold a b) h = whole_there (handles & names) (λ p. Hold p.0 p.1) n (a, b) h
+reads_back n (Clear a) h = whole_there handles (λ p. Clear p) n a h
+reads_back n (Send a b) h = whole_there (operands & values) (λ p. Send p.0 p.1) n (a, b) h
+reads_back n (Receive a b c) h = whole_there (operands & values & values) (λ p. Receive p.0 p.1.0 p.1.1) n (a, (b, c)) h
+reads_back n (SendHandle a b) h = whole_there (names & handles) (λ p. SendHandle p.0 p.1) n (a, b) h
+reads_back n (ReceiveHandle a b c) h = whole_there (names & handles & values) (λ p. ReceiveHandle p.0 p.1.0 p.1.1) n (a, (b, c)) h
+reads_back n (Close a) h = whole_there operands (λ p. Close p) n a h
+reads_back n (Select a) h = whole_there naturals (λ p. Select p) n a h
+reads_back n (CaseSend a b c) h = whole_there (operands & values & naturals) (λ p. CaseSend p.0 p.1.0 p.1.1) n (a, (b, c)) h
+reads_back n (CaseReceive a b c d) h = whole_there (operands & (values & values) & naturals) (λ p. CaseReceive p.0 p.1.0.0 p.1.0.1 p.1.1) n (a, ((b, c), d)) h
+reads_back n (CaseSendHandle a b c) h = whole_there (names & handles & naturals) (λ p. CaseSendHandle p.0 p.1.0 p.1.1) n (a, (b, c)) h
+reads_back n (CaseReceiveHandle a b c d) h = whole_there (names & (handles & values) & naturals) (λ p. CaseReceiveHandle p.0 p.1.0.0 p.1.0.1 p.1.1) n (a, ((b, c), d)) h
+reads_back n (CaseDefault a) h = whole_there naturals (λ p. CaseDefault p) n a h
+reads_back n (Start a) h = whole_there names (λ p. Start p) n a h
+reads_back n (Print a) h = whole_there values (λ p. Print p) n a h
+reads_back n (ValueChannel a b) h = whole_there (names & naturals) (λ p. ValueChannel p.0 p.1) n (a, b) h
+reads_back n (HandleChannel a b) h = whole_there (names & naturals) (λ p. HandleChannel p.0 p.1) n (a, b) h
+reads_back n (Routine a) h = whole_there names (λ p. Routine p) n a h
 
 -- what a format reads is listed with its mark, and has no end of a line in it
 abbrev Undoes : Format → Type 0
 Undoes f = (n : ℕ) (rest : List ℕ) (l : Line (List ℕ)) → f.reads n rest ≡ Ok l → Good l × (show_line l ≡ f.first ∷ (f.second ∷ rest)) × Free 10 rest
 
+-- the proofs one after another
+infixr 5 ◌and◌
+◌and◌ : {P Q : Type 0} → P → Q → P × Q
+p and q = (p, q)
+
 undo : AllByRecursion Undoes formats
-undo = (
-  whole_back _ _ _ codec_vn (λ p. Set p.0 p.1) 83 86 (λ x g. g) (λ x. refl),
-  (
-    whole_back _ _ _ codec_vv (λ p. Add p.0 p.1) 65 68 (λ x g. g) (λ x. refl),
-    (
-      whole_back _ _ _ codec_vv (λ p. Sub p.0 p.1) 83 66 (λ x g. g) (λ x. refl),
-      (
-        whole_back _ _ _ naturals (λ p. Jump p) 74 80 (λ x g. g) (λ x. refl),
-        (
-          whole_back _ _ _ codec_vt (λ p. JumpNegative p.0 p.1) 74 78 (λ x g. g) (λ x. refl),
-          (
-            whole_back _ _ _ codec_hm (λ p. Hold p.0 p.1) 72 76 (λ x g. g) (λ x. refl),
-            (
-              whole_back _ _ _ handles (λ p. Clear p) 72 78 (λ x g. g) (λ x. refl),
-              (
-                whole_back _ _ _ codec_cv (λ p. Send p.0 p.1) 83 68 (λ x g. g) (λ x. refl),
-                (
-                  whole_back _ _ _ codec_cvv (λ p. Receive p.0 p.1.0 p.1.1) 82 67 (λ x g. g) (λ x. refl),
-                  (
-                    whole_back _ _ _ codec_mh (λ p. SendHandle p.0 p.1) 83 72 (λ x g. g) (λ x. refl),
-                    (
-                      whole_back _ _ _ codec_mhv (λ p. ReceiveHandle p.0 p.1.0 p.1.1) 82 72 (λ x g. g) (λ x. refl),
-                      (
-                        whole_back _ _ _ operands (λ p. Close p) 67 76 (λ x g. g) (λ x. refl),
-                        (
-                          whole_back _ _ _ naturals (λ p. Select p) 83 69 (λ x g. g) (λ x. refl),
-                          (
-                            whole_back _ _ _ codec_cvt (λ p. CaseSend p.0 p.1.0 p.1.1) 67 83 (λ x g. g) (λ x. refl),
-                            (
-                              whole_back _ _ _ codec_cvvt (λ p. CaseReceive p.0 p.1.0.0 p.1.0.1 p.1.1) 67 82 (λ x g. g) (λ x. refl),
-                              (
-                                whole_back _ _ _ codec_mht (λ p. CaseSendHandle p.0 p.1.0 p.1.1) 71 83 (λ x g. g) (λ x. refl),
-                                (
-                                  whole_back _ _ _ codec_mhvt (λ p. CaseReceiveHandle p.0 p.1.0.0 p.1.0.1 p.1.1) 71 82 (λ x g. g) (λ x. refl),
-                                  (
-                                    whole_back _ _ _ naturals (λ p. CaseDefault p) 67 68 (λ x g. g) (λ x. refl),
-                                    (
-                                      whole_back _ _ _ names (λ p. Start p) 71 79 (λ x g. g) (λ x. refl),
-                                      (
-                                        whole_back _ _ _ values (λ p. Print p) 80 82 (λ x g. g) (λ x. refl),
-                                        (
-                                          whole_back _ _ _ codec_mt (λ p. ValueChannel p.0 p.1) 86 67 (λ x g. g) (λ x. refl),
-                                          (
-                                            whole_back _ _ _ codec_mt (λ p. HandleChannel p.0 p.1) 72 67 (λ x g. g) (λ x. refl),
-                                            (
-                                              whole_back _ _ _ names (λ p. Routine p) 82 84 (λ x g. g) (λ x. refl),
-                                              tt,
-                                            ),
-                                          ),
-                                        ),
-                                      ),
-                                    ),
-                                  ),
-                                ),
-                              ),
-                            ),
-                          ),
-                        ),
-                      ),
-                    ),
-                  ),
-                ),
-              ),
-            ),
-          ),
-        ),
-      ),
-    ),
-  ),
-)
+undo =
+    whole_back (values & integers) (λ p. Set p.0 p.1) 83 86 (λ x g. g) (λ x. refl)
+    and whole_back (values & values) (λ p. Add p.0 p.1) 65 68 (λ x g. g) (λ x. refl)
+    and whole_back (values & values) (λ p. Sub p.0 p.1) 83 66 (λ x g. g) (λ x. refl)
+    and whole_back naturals (λ p. Jump p) 74 80 (λ x g. g) (λ x. refl)
+    and whole_back (values & naturals) (λ p. JumpNegative p.0 p.1) 74 78 (λ x g. g) (λ x. refl)
+    and whole_back (handles & names) (λ p. Hold p.0 p.1) 72 76 (λ x g. g) (λ x. refl)
+    and whole_back handles (λ p. Clear p) 72 78 (λ x g. g) (λ x. refl)
+    and whole_back (operands & values) (λ p. Send p.0 p.1) 83 68 (λ x g. g) (λ x. refl)
+    and whole_back (operands & values & values) (λ p. Receive p.0 p.1.0 p.1.1) 82 67 (λ x g. g) (λ x. refl)
+    and whole_back (names & handles) (λ p. SendHandle p.0 p.1) 83 72 (λ x g. g) (λ x. refl)
+    and whole_back (names & handles & values) (λ p. ReceiveHandle p.0 p.1.0 p.1.1) 82 72 (λ x g. g) (λ x. refl)
+    and whole_back operands (λ p. Close p) 67 76 (λ x g. g) (λ x. refl)
+    and whole_back naturals (λ p. Select p) 83 69 (λ x g. g) (λ x. refl)
+    and whole_back (operands & values & naturals) (λ p. CaseSend p.0 p.1.0 p.1.1) 67 83 (λ x g. g) (λ x. refl)
+    and whole_back (operands & (values & values) & naturals) (λ p. CaseReceive p.0 p.1.0.0 p.1.0.1 p.1.1) 67 82 (λ x g. g) (λ x. refl)
+    and whole_back (names & handles & naturals) (λ p. CaseSendHandle p.0 p.1.0 p.1.1) 71 83 (λ x g. g) (λ x. refl)
+    and whole_back (names & (handles & values) & naturals) (λ p. CaseReceiveHandle p.0 p.1.0.0 p.1.0.1 p.1.1) 71 82 (λ x g. g) (λ x. refl)
+    and whole_back naturals (λ p. CaseDefault p) 67 68 (λ x g. g) (λ x. refl)
+    and whole_back names (λ p. Start p) 71 79 (λ x g. g) (λ x. refl)
+    and whole_back values (λ p. Print p) 80 82 (λ x g. g) (λ x. refl)
+    and whole_back (names & naturals) (λ p. ValueChannel p.0 p.1) 86 67 (λ x g. g) (λ x. refl)
+    and whole_back (names & naturals) (λ p. HandleChannel p.0 p.1) 72 67 (λ x g. g) (λ x. refl)
+    and whole_back names (λ p. Routine p) 82 84 (λ x g. g) (λ x. refl)
+    and tt
 
 -- no mark has an end of a line in it
 abbrev clear : List Format → Bool
