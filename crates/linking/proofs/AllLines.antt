@@ -4,68 +4,22 @@ use Rattle.std.specs.List.{slice_get, AllByRecursion}
 use Rattle.std.specs.Option.{option_map}
 use Rattle.std.proofs.lemmas.List.{length-map}
 use Rattle.std.proofs.lemmas.Bool.{or_from, le-ltb}
+use Rattle.std.proofs.lemmas.Option.{slice_get-map}
 use Rattle.lines.specs.declared.line.Operand.{Operand}
 use Rattle.lines.specs.declared.line.Operand.TheVariants.{Named, Held}
-use Rattle.lines.specs.Roles.{role}
 use Rattle.script.specs.Rules.{place}
-use Rattle.script_laws.specs.Lawful as law
-use Rattle.linking.specs.declared.symbols.Wanted.{Wanted}
-use Rattle.linking.specs.declared.symbols.Wanted.TheVariants.{AValue, AHandle, Either}
+use Rattle.lines.specs.declared.line.Kind.{Kind}
+use Rattle.lines.specs.declared.line.Kind.TheVariants.{Value, Handle}
 use Rattle.linking.specs.declared.operation.Operation.{Operation}
-use Rattle.linking.specs.declared.operation.Operation.TheVariants.{Set, Add, Sub, Jump, JumpNegative, Hold, Clear, Alone, Select, Case, Default, Close, Start, Print}
+use Rattle.linking.specs.declared.operation.Operation.TheVariants.{Hold, Alone, Case, Close, Start}
 use Rattle.linking.specs.declared.operation.Exchange.{Exchange}
 use Rattle.linking.specs.declared.operation.Exchange.TheVariants.{Send, Receive, SendHandle, ReceiveHandle}
 use Rattle.linking.specs.Naming.{Known, channel, operand, operation}
 use Rattle.linking.specs.Parts.{target, case_line, wild}
 use Rattle.linking.specs.Links.{both, settled, link_line, link_lines}
-use Rattle.linking.specs.Sound.{is_case, leads, Uses, UsesOperand, SoundExchange, SoundOperation, a_case, Lands}
+use Rattle.linking.specs.Sound.{leads, Uses, UsesOperand, SoundExchange, SoundOperation, a_case, Lands}
+use Rattle.linking.proofs.Named.{leads_named, case_named}
 use Rattle.linking.specs.Meaning.{name_at, named_operand, named}
-use Rattle.linking.proofs.Reach.{nth_map}
-
--- ---- what a line with its names put back has from its operation
-leads_named : (k : Known) (o : Operation) → target (named k o) ≡ leads o
-leads_named k (Set v n) = refl
-leads_named k (Add v w) = refl
-leads_named k (Sub v w) = refl
-leads_named k (Jump t) = refl
-leads_named k (JumpNegative v t) = refl
-leads_named k (Hold h c) = refl
-leads_named k (Clear h) = refl
-leads_named k (Alone (Send o v)) = refl
-leads_named k (Alone (Receive o v w)) = refl
-leads_named k (Alone (SendHandle c h)) = refl
-leads_named k (Alone (ReceiveHandle c h w)) = refl
-leads_named k (Select n) = refl
-leads_named k (Case (Send o v) t) = refl
-leads_named k (Case (Receive o v w) t) = refl
-leads_named k (Case (SendHandle c h) t) = refl
-leads_named k (Case (ReceiveHandle c h w) t) = refl
-leads_named k (Default t) = refl
-leads_named k (Close o) = refl
-leads_named k (Start b) = refl
-leads_named k (Print v) = refl
-
-case_named : (k : Known) (o : Operation) → law.is_case (role (named k o)) ≡ is_case o
-case_named k (Set v n) = refl
-case_named k (Add v w) = refl
-case_named k (Sub v w) = refl
-case_named k (Jump t) = refl
-case_named k (JumpNegative v t) = refl
-case_named k (Hold h c) = refl
-case_named k (Clear h) = refl
-case_named k (Alone (Send o v)) = refl
-case_named k (Alone (Receive o v w)) = refl
-case_named k (Alone (SendHandle c h)) = refl
-case_named k (Alone (ReceiveHandle c h w)) = refl
-case_named k (Select n) = refl
-case_named k (Case (Send o v) t) = refl
-case_named k (Case (Receive o v w) t) = refl
-case_named k (Case (SendHandle c h) t) = refl
-case_named k (Case (ReceiveHandle c h w) t) = refl
-case_named k (Default t) = refl
-case_named k (Close o) = refl
-case_named k (Start b) = refl
-case_named k (Print v) = refl
 
 -- ---- a target that lands is not wild
 case_mapped : (k : Known) (o : Option Operation) → case_line (option_map (named k) o) ≡ a_case o
@@ -77,47 +31,39 @@ lands_tame k ops None h = refl
 lands_tame k ops (Some t) h =
     or_from (ltb (length (map (named k) ops)) t) (case_line (slice_get (map (named k) ops) t))
     (le-ltb _ t (omega (arith, h.0, length-map ops (named k))))
-    (ap case_line (nth_map (named k) ops t) ∙ case_mapped k (slice_get ops t) ∙ h.1)
+    (ap case_line (slice_get-map (named k) ops t) ∙ case_mapped k (slice_get ops t) ∙ h.1)
 
 -- ---- operations, where each number that can be used is found by its name
 abbrev pub ChannelsFound : Known → Type 0
-ChannelsFound k = (w : Wanted) (c : ℕ) → Uses k.channels w c → channel k w (name_at k.names c) ≡ Some c
+ChannelsFound k = (w : Option Kind) (c : ℕ) → Uses k.channels w c → channel k w (name_at k.names c) ≡ Some c
 
 abbrev pub BodiesFound : Known → ℕ → Type 0
 BodiesFound k n = (b : ℕ) → b < n → place (name_at k.bodies b) k.bodies ≡ Some b
 
 module _ (k : Known) (bodies : ℕ) (found : ChannelsFound k) (opened : BodiesFound k bodies) where
-  operand_back : (w : Wanted) (o : Operand ℕ) → UsesOperand k.channels w o → operand k w (named_operand k o) ≡ Some o
+  operand_back : (w : Option Kind) (o : Operand ℕ) → UsesOperand k.channels w o → operand k w (named_operand k o) ≡ Some o
   operand_back w (Named c) u = ap (option_map Named) (found w c u)
   operand_back w (Held h) u = refl
 
   alone_back : (e : Exchange ℕ) → SoundExchange k.channels e → operation k (named k (Alone e)) ≡ Some (Alone e)
-  alone_back (Send o v) s = ap (λ x. option_map Alone (option_map (λ p. Send p v) x)) (operand_back AValue o s.0)
-  alone_back (Receive o v w) s = ap (λ x. option_map Alone (option_map (λ p. Receive p v w) x)) (operand_back AValue o s.0)
-  alone_back (SendHandle c h) s = ap (λ x. option_map Alone (option_map (λ d. SendHandle d h) x)) (found AHandle c s.0)
-  alone_back (ReceiveHandle c h w) s = ap (λ x. option_map Alone (option_map (λ d. ReceiveHandle d h w) x)) (found AHandle c s.0)
+  alone_back (Send o v) s = ap (λ x. option_map Alone (option_map (λ p. Send p v) x)) (operand_back (Some Value) o s.0)
+  alone_back (Receive o v w) s = ap (λ x. option_map Alone (option_map (λ p. Receive p v w) x)) (operand_back (Some Value) o s.0)
+  alone_back (SendHandle c h) s = ap (λ x. option_map Alone (option_map (λ d. SendHandle d h) x)) (found (Some Handle) c s.0)
+  alone_back (ReceiveHandle c h w) s = ap (λ x. option_map Alone (option_map (λ d. ReceiveHandle d h w) x)) (found (Some Handle) c s.0)
 
   case_back : (e : Exchange ℕ) (t : ℕ) → SoundExchange k.channels e → operation k (named k (Case e t)) ≡ Some (Case e t)
-  case_back (Send o v) t s = ap (λ x. option_map (λ f. Case f t) (option_map (λ p. Send p v) x)) (operand_back AValue o s.0)
-  case_back (Receive o v w) t s = ap (λ x. option_map (λ f. Case f t) (option_map (λ p. Receive p v w) x)) (operand_back AValue o s.0)
-  case_back (SendHandle c h) t s = ap (λ x. option_map (λ f. Case f t) (option_map (λ d. SendHandle d h) x)) (found AHandle c s.0)
-  case_back (ReceiveHandle c h w) t s = ap (λ x. option_map (λ f. Case f t) (option_map (λ d. ReceiveHandle d h w) x)) (found AHandle c s.0)
+  case_back (Send o v) t s = ap (λ x. option_map (λ f. Case f t) (option_map (λ p. Send p v) x)) (operand_back (Some Value) o s.0)
+  case_back (Receive o v w) t s = ap (λ x. option_map (λ f. Case f t) (option_map (λ p. Receive p v w) x)) (operand_back (Some Value) o s.0)
+  case_back (SendHandle c h) t s = ap (λ x. option_map (λ f. Case f t) (option_map (λ d. SendHandle d h) x)) (found (Some Handle) c s.0)
+  case_back (ReceiveHandle c h w) t s = ap (λ x. option_map (λ f. Case f t) (option_map (λ d. ReceiveHandle d h w) x)) (found (Some Handle) c s.0)
 
   operation_back : (o : Operation) → SoundOperation k.channels bodies o → operation k (named k o) ≡ Some o
-  operation_back (Set v n) s = refl
-  operation_back (Add v w) s = refl
-  operation_back (Sub v w) s = refl
-  operation_back (Jump t) s = refl
-  operation_back (JumpNegative v t) s = refl
-  operation_back (Hold h c) s = ap (option_map (λ d. Hold h d)) (found AValue c s.1)
-  operation_back (Clear h) s = refl
+  operation_back (Hold h c) s = ap (option_map (λ d. Hold h d)) (found (Some Value) c s.1)
   operation_back (Alone e) s = alone_back e s
-  operation_back (Select n) s = refl
   operation_back (Case e t) s = case_back e t s
-  operation_back (Default t) s = refl
-  operation_back (Close o) s = ap (option_map Close) (operand_back Either o s)
+  operation_back (Close o) s = ap (option_map Close) (operand_back None o s)
   operation_back (Start b) s = ap (option_map Start) (opened b s)
-  operation_back (Print v) s = refl
+  operation_back _ s = refl
 
   -- ---- lines of the body that all those operations are
   module _ (all : List Operation) where

@@ -1,12 +1,10 @@
-pub mod Gather
-pub mod Reach
 pub mod Stages
-pub mod Spelling
 pub mod AllNames
 pub mod AllLines
 pub mod AllParts
 pub mod Found
 pub mod Paired
+pub mod Named
 pub mod Meant
 pub mod Inverted
 pub mod Within

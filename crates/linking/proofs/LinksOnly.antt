@@ -1,6 +1,6 @@
 -- What is linked stands for the script, and has what running needs.
 use Rattle.std.proofs.Common.{◌≡◌, ℕ, ◌+◌, ◌≤◌, List, length, Some, sym, refl, ◌∙◌, subst, arith}
-use Rattle.std.specs.List.{AllByRecursion}
+use Rattle.std.specs.List.{AllByRecursion, AllZip}
 use Rattle.lines.specs.declared.line.Kind.TheVariants.{Value, Handle}
 use Rattle.lines.specs.declared.line.Line.{Line}
 use Rattle.script.specs.Rules.{place}
@@ -13,14 +13,15 @@ use Rattle.linking.specs.Links.{link_parts, main_name}
 use Rattle.linking.specs.Sound.{SoundBlock, Sound}
 use Rattle.linking.specs.Meaning.{named_block, StandsFor, LinksOnly}
 use Rattle.linking.proofs.Found.{place_back}
-use Rattle.linking.proofs.Paired.{Pairs, pairs_length, pairs_all, pairs_map}
+use Rattle.std.proofs.lemmas.Slice.Zip.{AllZip-long}
+use Rattle.linking.proofs.Paired.{pairs_all, pairs_map}
 use Rattle.linking.proofs.Inverted.{LineLinked, PartLinked, parts_back, main_back}
 use Rattle.linking.proofs.Within.{Well, parts_well, all_fit}
 use Rattle.linking.proofs.Totals.{channels_counted, names_counted, parts_counted, channels_small, cells_counted}
 use Rattle.linking.proofs.Placed.{parts_placed, lines_few}
 use Rattle.linking.proofs.Runnable.{block_sound, block_back}
 
-module _ (ls : List (Line (List ℕ))) (bs : List Block) (i : ℕ) (named : place main_name (body_names ls) ≡ Some i) (linked : Pairs (PartLinked (known ls)) (parts 1 ls) bs) where
+module _ (ls : List (Line (List ℕ))) (bs : List Block) (i : ℕ) (named : place main_name (body_names ls) ≡ Some i) (linked : AllZip (PartLinked (known ls)) (parts 1 ls) bs) where
   -- the program that was made
   abbrev made : Program
   made = record { channels = channels ls; bodies = bs; main = i }
@@ -34,7 +35,7 @@ module _ (ls : List (Line (List ℕ))) (bs : List Block) (i : ℕ) (named : plac
 
   -- as many bodies as names of bodies
   as_many : length bs ≡ length (body_names ls)
-  as_many = pairs_length (PartLinked (known ls)) (parts 1 ls) bs linked ∙ parts_counted 1 ls ∙ sym (names_counted ls)
+  as_many = AllZip-long (PartLinked (known ls)) (parts 1 ls) bs linked ∙ parts_counted 1 ls ∙ sym (names_counted ls)
 
   sound : Kept ls → Sound made
   sound kept =
@@ -49,7 +50,7 @@ module _ (ls : List (Line (List ℕ))) (bs : List Block) (i : ℕ) (named : plac
         handle_cells = omega (arith, cells_counted Handle ls, law.handle_cells);
         main_there = omega (arith, as_many, (place_back main_name (body_names ls) i named).0);
         placed = pairs_all (PartLinked (known ls)) (λ q. q.line + length q.lines ≤ 576) (λ b. b.line + length b.operations ≤ 576)
-            (λ q b h f. omega (arith, h.0, pairs_length (LineLinked (known ls) q.lines) q.lines b.operations h.1, f)) (parts 1 ls) bs linked
+            (λ q b h f. omega (arith, h.0, AllZip-long (LineLinked (known ls) q.lines) q.lines b.operations h.1, f)) (parts 1 ls) bs linked
             (parts_placed 576 1 ls (omega (arith, lines_few ls law)));
         blocks = subst (λ n. AllByRecursion (SoundBlock (channels ls) n) bs) (sym as_many) blocks;
       }

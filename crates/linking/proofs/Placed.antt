@@ -6,7 +6,7 @@ use Rattle.std.proofs.lemmas.List.Sums.{sum_by-cons}
 use Rattle.std.proofs.lemmas.Bool.{cond_both}
 use Rattle.lines.specs.declared.line.Line.{Line}
 use Rattle.lines.specs.declared.line.Role.{Role}
-use Rattle.lines.specs.declared.line.Role.TheVariants.{Declares, Opens, Selects, Acts, Case, Default}
+use Rattle.lines.specs.declared.line.Role.TheVariants.{Declares}
 use Rattle.lines.specs.Roles.{role}
 use Rattle.script_laws.specs.Lawful.{is_declares, is_opens, is_body, roles, Lawful}
 use Rattle.linking.specs.Parts.{own, parts}
@@ -24,11 +24,7 @@ parts_placed m n (l ∷ ls) h =
 -- each line declares a channel, opens a body or is one of a body
 one_each : (r : Role (List ℕ)) → cond (is_declares r) 1 0 + cond (is_opens r) 1 0 + cond (is_body r) 1 0 ≡ 1
 one_each (Declares k x n) = refl
-one_each (Opens x) = refl
-one_each (Selects n) = refl
-one_each Acts = refl
-one_each Case = refl
-one_each Default = refl
+one_each _ = refl
 
 all_counted : (ls : List (Line (List ℕ))) → count_by is_declares (roles ls) + count_by is_opens (roles ls) + count_by is_body (roles ls) ≡ length ls
 all_counted [] = refl

@@ -1,66 +1,46 @@
 -- As many channels and bodies are linked as are declared, with as many cells.
-use Rattle.std.proofs.Common.{◌≡◌, ℕ, ◌+◌, ◌≤◌, Bool, true, false, cond, List, [], ◌∷◌, length, sum_by, count_by, sym, refl, ◌∙◌, arith}
-use Rattle.std.specs.Option.{option_to_list}
-use Rattle.std.specs.List.{AllByRecursion}
-use Rattle.std.proofs.lemmas.List.{length-append}
-use Rattle.std.proofs.ByRecursion.{All-append}
-use Rattle.std.proofs.lemmas.List.Sums.{sum_by-cons, sum_by-append}
+use Rattle.std.proofs.Common.{◌≡◌, ℕ, ◌+◌, ◌≤◌, Bool, true, false, cond, List, [], ◌∷◌, map, length, sum_by, count_by, sym, refl, ◌∙◌, arith}
+use Rattle.std.specs.List.{AllByRecursion, cons_option}
+use Rattle.std.proofs.lemmas.List.Sums.{sum_by-cons}
 use Rattle.lines.specs.declared.line.Kind.{Kind}
 use Rattle.lines.specs.declared.line.Line.{Line}
 use Rattle.lines.specs.declared.line.Role.{Role}
-use Rattle.lines.specs.declared.line.Role.TheVariants.{Declares, Opens, Selects, Acts, Case, Default}
+use Rattle.lines.specs.declared.line.Role.TheVariants.{Declares, Opens}
 use Rattle.lines.specs.Roles.{role}
 use Rattle.script.specs.Rules.{opens}
 use Rattle.script_laws.specs.Lawful.{is_declares, is_opens, capacity, capacity_of, roles}
-use Rattle.linking.specs.Naming.{declaration, channels, body_names}
+use Rattle.linking.specs.declared.declared.Channel.{Channel}
+use Rattle.linking.specs.Naming.{declared, named_channels, channels, body_names}
 use Rattle.linking.specs.Parts.{own, parts}
 use Rattle.linking.specs.Sound.{cells_for}
 
--- ---- one line
-declared_one : (r : Role (List ℕ)) → length (declaration r) ≡ cond (is_declares r) 1 0
-declared_one (Declares k x n) = refl
-declared_one (Opens x) = refl
-declared_one (Selects n) = refl
-declared_one Acts = refl
-declared_one Case = refl
-declared_one Default = refl
+-- ---- one line, before channels, and before names
+counted_one : (r : Role (List ℕ)) (cs : List Channel) → length (map (λ c. c.declared) (cons_option (declared r) cs)) ≡ cond (is_declares r) 1 0 + length (map (λ c. c.declared) cs)
+counted_one (Declares k x n) cs = omega arith
+counted_one _ cs = omega arith
 
-opened_one : (r : Role (List ℕ)) → length (option_to_list (opens r)) ≡ cond (is_opens r) 1 0
-opened_one (Declares k x n) = refl
-opened_one (Opens x) = refl
-opened_one (Selects n) = refl
-opened_one Acts = refl
-opened_one Case = refl
-opened_one Default = refl
+opened_one : (r : Role (List ℕ)) (xs : List (List ℕ)) → length (cons_option (opens r) xs) ≡ cond (is_opens r) 1 0 + length xs
+opened_one (Opens x) xs = omega arith
+opened_one _ xs = omega arith
 
-small_one : (r : Role (List ℕ)) → capacity r ≤ 64 → AllByRecursion (λ d. d.capacity ≤ 64) (declaration r)
-small_one (Declares k x n) h = (h, tt)
-small_one (Opens x) h = tt
-small_one (Selects n) h = tt
-small_one Acts h = tt
-small_one Case h = tt
-small_one Default h = tt
+small_one : (r : Role (List ℕ)) (cs : List Channel) → capacity r ≤ 64 → AllByRecursion (λ d. d.capacity ≤ 64) (map (λ c. c.declared) cs) → AllByRecursion (λ d. d.capacity ≤ 64) (map (λ c. c.declared) (cons_option (declared r) cs))
+small_one (Declares k x n) cs h a = (h, a)
+small_one _ cs h a = a
 
-cells_one : (c : Kind) (r : Role (List ℕ)) → sum_by (cells_for c) (declaration r) ≡ capacity_of c r
-cells_one c (Declares k x n) = omega (arith, sum_by-cons (cells_for c) (record { kind = k; capacity = n }) [])
-cells_one c (Opens x) = refl
-cells_one c (Selects n) = refl
-cells_one c Acts = refl
-cells_one c Case = refl
-cells_one c Default = refl
+cells_one : (c : Kind) (r : Role (List ℕ)) (cs : List Channel) → sum_by (cells_for c) (map (λ d. d.declared) (cons_option (declared r) cs)) ≡ capacity_of c r + sum_by (cells_for c) (map (λ d. d.declared) cs)
+cells_one c (Declares k x n) cs = omega (arith, sum_by-cons (cells_for c) (record { kind = k; capacity = n }) (map (λ d. d.declared) cs))
+cells_one c _ cs = omega arith
 
 -- ---- all lines
 pub channels_counted : (ls : List (Line (List ℕ))) → length (channels ls) ≡ count_by is_declares (roles ls)
 channels_counted [] = refl
 channels_counted (l ∷ ls) =
-    omega
-    (arith, length-append (declaration (role l)) (channels ls), declared_one (role l), channels_counted ls, sum_by-cons (λ r. cond (is_declares r) 1 0) (role l) (roles ls))
+    omega (arith, counted_one (role l) (named_channels ls), channels_counted ls, sum_by-cons (λ r. cond (is_declares r) 1 0) (role l) (roles ls))
 
 pub names_counted : (ls : List (Line (List ℕ))) → length (body_names ls) ≡ count_by is_opens (roles ls)
 names_counted [] = refl
 names_counted (l ∷ ls) =
-    omega
-    (arith, length-append (option_to_list (opens (role l))) (body_names ls), opened_one (role l), names_counted ls, sum_by-cons (λ r. cond (is_opens r) 1 0) (role l) (roles ls))
+    omega (arith, opened_one (role l) (body_names ls), names_counted ls, sum_by-cons (λ r. cond (is_opens r) 1 0) (role l) (roles ls))
 
 pub parts_counted : (n : ℕ) (ls : List (Line (List ℕ))) → length (parts n ls) ≡ count_by is_opens (roles ls)
 parts_counted n [] = refl
@@ -72,10 +52,8 @@ parts_counted n (l ∷ ls) = go (is_opens (role l)) (parts_counted (n + 1) ls) �
 
 pub channels_small : (ls : List (Line (List ℕ))) → AllByRecursion (λ r. capacity r ≤ 64) (roles ls) → AllByRecursion (λ d. d.capacity ≤ 64) (channels ls)
 channels_small [] a = tt
-channels_small (l ∷ ls) a = All-append (λ d. d.capacity ≤ 64) (declaration (role l)) (channels ls) (small_one (role l) a.0) (channels_small ls a.1)
+channels_small (l ∷ ls) a = small_one (role l) (named_channels ls) a.0 (channels_small ls a.1)
 
 pub cells_counted : (c : Kind) (ls : List (Line (List ℕ))) → sum_by (cells_for c) (channels ls) ≡ sum_by (capacity_of c) (roles ls)
 cells_counted c [] = refl
-cells_counted c (l ∷ ls) =
-    omega
-    (arith, sum_by-append (cells_for c) (declaration (role l)) (channels ls), cells_one c (role l), cells_counted c ls, sum_by-cons (capacity_of c) (role l) (roles ls))
+cells_counted c (l ∷ ls) = omega (arith, cells_one c (role l) (named_channels ls), cells_counted c ls, sum_by-cons (capacity_of c) (role l) (roles ls))

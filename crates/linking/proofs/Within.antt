@@ -5,7 +5,7 @@ use Rattle.std.proofs.ByRecursion.{All-take}
 use Rattle.std.proofs.lemmas.Bool.{cond_both, false≢true}
 use Rattle.lines.specs.declared.line.Line.{Line}
 use Rattle.lines.specs.declared.line.Role.{Role}
-use Rattle.lines.specs.declared.line.Role.TheVariants.{Declares, Opens, Selects, Acts, Case, Default}
+use Rattle.lines.specs.declared.line.Role.TheVariants.{Opens}
 use Rattle.lines.specs.Roles.{role}
 use Rattle.lines.specs.Shows.{Good}
 use Rattle.script_laws.specs.Lawful.{is_opens, is_case, asks, Everywhere, Followed, roles}
@@ -13,20 +13,12 @@ use Rattle.linking.specs.Parts.{own, parts}
 
 -- ---- a line that opens a body is no case and asks for none
 opens_no_case : (r : Role (List ℕ)) → is_opens r ≡ true → is_case r ≡ false
-opens_no_case (Declares k x n) e = refl
 opens_no_case (Opens x) e = refl
-opens_no_case (Selects n) e = refl
-opens_no_case Acts e = refl
-opens_no_case Case e = absurd (false≢true e)
-opens_no_case Default e = absurd (false≢true e)
+opens_no_case _ e = absurd (false≢true e)
 
 opens_asks_none : (r : Role (List ℕ)) → is_opens r ≡ true → asks r ≡ 0
-opens_asks_none (Declares k x n) e = refl
 opens_asks_none (Opens x) e = refl
-opens_asks_none (Selects n) e = absurd (false≢true e)
-opens_asks_none Acts e = refl
-opens_asks_none Case e = refl
-opens_asks_none Default e = refl
+opens_asks_none _ e = absurd (false≢true e)
 
 -- ---- the lines of one body, in front of others
 own_more : (l : Line (List ℕ)) (ls : List (Line (List ℕ))) → own (l ∷ ls) ≡ cond (is_opens (role l)) [] (l ∷ own ls)

@@ -1,8 +1,6 @@
 -- What linking answers.
 use Rattle.std.specs.Prelude.{◌≡◌, ℕ, List, Ok, Err, Result}
 use Rattle.lines.specs.declared.line.Line.{Line}
-use Rattle.script.specs.declared.state.Read.{Read}
-use Rattle.script.specs.States.{script_of}
 use Rattle.linking.specs.declared.stop.Stop.{Stop}
 use Rattle.linking.specs.declared.stop.Stop.TheVariants.{Faulty, Memory}
 use Rattle.linking.specs.declared.linked.Linked.{Linked}
@@ -11,20 +9,12 @@ use Rattle.linking.specs.Programs.{Program}
 use Rattle.linking.specs.Links.{link_script}
 use Rattle.linking.specs.Sound.{Sound}
 use Rattle.linking.specs.Meaning.{StandsFor}
-use Rattle.linking.specs.Stages.{program_of}
-
--- the program of a linked script
-abbrev pub linked_program : Linked → Program
-linked_program l = program_of l.tables
+use Rattle.linking.specs.Stages.{Stopped}
 
 -- the script with its program, or the script again and its fault; of want of memory nothing more is said
-abbrev pub Stopped : Read → Stop → Type 0
-Stopped s (Faulty f) = link_script (script_of s) ≡ Err f
-Stopped s Memory = Unit {0}
-
-abbrev pub Links : Read → Result Linked Unlinked → Type 0
-Links s (Ok l) = (l.script ≡ s) × (link_script (script_of s) ≡ Ok (linked_program l))
-Links s (Err u) = (u.script ≡ s) × Stopped s u.stop
+abbrev pub Links : List (Line (List ℕ)) → Result Linked Unlinked → Type 0
+Links ls (Ok l) = (l.script ≡ ls) × (link_script ls ≡ Ok l.program)
+Links ls (Err u) = (u.script ≡ ls) × Stopped (link_script ls) u.stop
 
 -- a program that stands for the script and has what running needs was made; a fault is given only if there is none
 abbrev pub NoneFor : List (Line (List ℕ)) → Stop → Type 0
@@ -32,5 +22,5 @@ NoneFor ls (Faulty f) = (p : Program) → StandsFor ls p → Sound p → ⊥
 NoneFor ls Memory = Unit {0}
 
 abbrev pub Exact : List (Line (List ℕ)) → Result Linked Unlinked → Type 0
-Exact ls (Ok l) = ∥ StandsFor ls (linked_program l) × Sound (linked_program l) ∥₁
+Exact ls (Ok l) = ∥ StandsFor ls l.program × Sound l.program ∥₁
 Exact ls (Err u) = NoneFor ls u.stop

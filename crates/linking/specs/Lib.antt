@@ -2,8 +2,6 @@ pub mod Programs
 pub mod Naming
 pub mod Parts
 pub mod Links
-pub mod Seen
-pub mod Surveys
 pub mod Stages
 pub mod Sound
 pub mod Meaning

@@ -2,7 +2,7 @@
 use Rattle.std.specs.Prelude.{ℕ, ◌+◌, Bool, false, cond, not, ◌||◌, List, [], ◌∷◌, length, take, Some, None, Option, nat_lt}
 use Rattle.std.specs.List.{slice_get, prefix_len}
 use Rattle.lines.specs.declared.line.Line.{Line}
-use Rattle.lines.specs.declared.line.Line.TheVariants.{Set, Add, Sub, Jump, JumpNegative, Hold, Clear, Send, Receive, SendHandle, ReceiveHandle, Close, Select, CaseSend, CaseReceive, CaseSendHandle, CaseReceiveHandle, CaseDefault, Start, Print, ValueChannel, HandleChannel, Routine}
+use Rattle.lines.specs.declared.line.Line.TheVariants.{Jump, JumpNegative, CaseSend, CaseReceive, CaseSendHandle, CaseReceiveHandle, CaseDefault}
 use Rattle.lines.specs.Roles.{role}
 use Rattle.script_laws.specs.Lawful.{is_opens, is_case}
 
@@ -22,29 +22,14 @@ parts n (l ∷ ls) = cond (is_opens (role l)) (record { line = n; lines = own ls
 
 -- the line of its body that a line leads to, counted from 0
 abbrev pub target : {N : Type 0} → Line N → Option ℕ
-target (Set v n) = None
-target (Add v w) = None
-target (Sub v w) = None
 target (Jump t) = Some t
 target (JumpNegative v t) = Some t
-target (Hold h x) = None
-target (Clear h) = None
-target (Send o v) = None
-target (Receive o v w) = None
-target (SendHandle x h) = None
-target (ReceiveHandle x h w) = None
-target (Close o) = None
-target (Select n) = None
 target (CaseSend o v t) = Some t
 target (CaseReceive o v w t) = Some t
 target (CaseSendHandle x h t) = Some t
 target (CaseReceiveHandle x h w t) = Some t
 target (CaseDefault t) = Some t
-target (Start x) = None
-target (Print v) = None
-target (ValueChannel x n) = None
-target (HandleChannel x n) = None
-target (Routine x) = None
+target _ = None
 
 abbrev pub case_line : {N : Type 0} → Option (Line N) → Bool
 case_line None = false

@@ -7,8 +7,6 @@ use Rattle.lines.specs.declared.line.Operand.{Operand}
 use Rattle.lines.specs.declared.line.Operand.TheVariants.{Named, Held}
 use Rattle.script_laws.specs.Lawful.{at_kind}
 use Rattle.linking.specs.declared.declared.Declared.{Declared}
-use Rattle.linking.specs.declared.symbols.Wanted.{Wanted}
-use Rattle.linking.specs.declared.symbols.Wanted.TheVariants.{AValue, AHandle, Either}
 use Rattle.linking.specs.declared.operation.Operation.{Operation}
 use Rattle.linking.specs.declared.operation.Operation.TheVariants.{Set, Add, Sub, Jump, JumpNegative, Hold, Clear, Alone, Select, Case, Default, Close, Start, Print}
 use Rattle.linking.specs.declared.operation.Exchange.{Exchange}
@@ -19,69 +17,37 @@ use Rattle.linking.specs.Naming.{suited}
 -- ---- what an operation is to those around it
 -- a case, the default too
 abbrev pub is_case : Operation → Bool
-is_case (Set v n) = false
-is_case (Add v w) = false
-is_case (Sub v w) = false
-is_case (Jump t) = false
-is_case (JumpNegative v t) = false
-is_case (Hold h c) = false
-is_case (Clear h) = false
-is_case (Alone e) = false
-is_case (Select n) = false
 is_case (Case e t) = true
 is_case (Default t) = true
-is_case (Close o) = false
-is_case (Start b) = false
-is_case (Print v) = false
+is_case _ = false
 
 -- how many cases it asks for
 abbrev pub asks : Operation → ℕ
-asks (Set v n) = 0
-asks (Add v w) = 0
-asks (Sub v w) = 0
-asks (Jump t) = 0
-asks (JumpNegative v t) = 0
-asks (Hold h c) = 0
-asks (Clear h) = 0
-asks (Alone e) = 0
 asks (Select n) = n
-asks (Case e t) = 0
-asks (Default t) = 0
-asks (Close o) = 0
-asks (Start b) = 0
-asks (Print v) = 0
+asks _ = 0
 
 -- the line of its body that it leads to
 abbrev pub leads : Operation → Option ℕ
-leads (Set v n) = None
-leads (Add v w) = None
-leads (Sub v w) = None
 leads (Jump t) = Some t
 leads (JumpNegative v t) = Some t
-leads (Hold h c) = None
-leads (Clear h) = None
-leads (Alone e) = None
-leads (Select n) = None
 leads (Case e t) = Some t
 leads (Default t) = Some t
-leads (Close o) = None
-leads (Start b) = None
-leads (Print v) = None
+leads _ = None
 
 -- ---- every number in range
 -- there is a channel of that number, of the kind that is wanted
-abbrev pub Uses : List Declared → Wanted → ℕ → Type 0
+abbrev pub Uses : List Declared → Option Kind → ℕ → Type 0
 Uses ds w c = suited w (slice_get ds c) ≡ true
 
-abbrev pub UsesOperand : List Declared → Wanted → Operand ℕ → Type 0
+abbrev pub UsesOperand : List Declared → Option Kind → Operand ℕ → Type 0
 UsesOperand ds w (Named c) = Uses ds w c
 UsesOperand ds w (Held h) = h < 4
 
 abbrev pub SoundExchange : List Declared → Exchange ℕ → Type 0
-SoundExchange ds (Send o v) = UsesOperand ds AValue o × (v < 8)
-SoundExchange ds (Receive o v w) = UsesOperand ds AValue o × (v < 8) × (w < 8)
-SoundExchange ds (SendHandle c h) = Uses ds AHandle c × (h < 4)
-SoundExchange ds (ReceiveHandle c h w) = Uses ds AHandle c × (h < 4) × (w < 8)
+SoundExchange ds (Send o v) = UsesOperand ds (Some Value) o × (v < 8)
+SoundExchange ds (Receive o v w) = UsesOperand ds (Some Value) o × (v < 8) × (w < 8)
+SoundExchange ds (SendHandle c h) = Uses ds (Some Handle) c × (h < 4)
+SoundExchange ds (ReceiveHandle c h w) = Uses ds (Some Handle) c × (h < 4) × (w < 8)
 
 -- 8 value registers and 4 handle registers, 8 cases, and so many bodies
 abbrev pub SoundOperation : List Declared → ℕ → Operation → Type 0
@@ -90,13 +56,13 @@ SoundOperation ds bodies (Add v w) = (v < 8) × (w < 8)
 SoundOperation ds bodies (Sub v w) = (v < 8) × (w < 8)
 SoundOperation ds bodies (Jump t) = Unit {0}
 SoundOperation ds bodies (JumpNegative v t) = v < 8
-SoundOperation ds bodies (Hold h c) = (h < 4) × Uses ds AValue c
+SoundOperation ds bodies (Hold h c) = (h < 4) × Uses ds (Some Value) c
 SoundOperation ds bodies (Clear h) = h < 4
 SoundOperation ds bodies (Alone e) = SoundExchange ds e
 SoundOperation ds bodies (Select n) = n ≤ 8
 SoundOperation ds bodies (Case e t) = SoundExchange ds e
 SoundOperation ds bodies (Default t) = Unit {0}
-SoundOperation ds bodies (Close o) = UsesOperand ds Either o
+SoundOperation ds bodies (Close o) = UsesOperand ds None o
 SoundOperation ds bodies (Start b) = b < bodies
 SoundOperation ds bodies (Print v) = v < 8
 

@@ -1,19 +1,41 @@
 // Linking the lines of bodies.
-ghost use Rattle.std.specs.Prelude.{◌≡◌, ◌+◌, ◌^◌, ◌<◌, map, length};
-ghost use Rattle.lines.specs.Lines.{line_of};
-ghost use Rattle.linking.specs.Links.{link_line, link_lines, link_part, link_parts};
-ghost use Rattle.linking.specs.Seen.{known_of, part_of};
-ghost use Rattle.linking.specs.Stages.{LinksBehind, LinksBody, LinksBodies, LiesIn};
-ghost use Rattle.std.specs.List.{AllByRecursion};
+ghost use Rattle.std.specs.Prelude.{◌≡◌, ◌+◌, ◌^◌, ◌<◌, not, length, vec_items};
+ghost use Rattle.std.specs.List.{prefix_len};
+ghost use Rattle.lines.specs.Roles.{role as role_of};
+ghost use Rattle.script_laws.specs.Lawful.{is_opens};
+ghost use Rattle.linking.specs.Parts.{own as own_of, parts};
+ghost use Rattle.linking.specs.Links.{link_line, link_part, link_parts};
+ghost use Rattle.linking.specs.Stages.{Makes};
 
-use crate::declared::{Body, Code, Section};
+use crate::declared::Body;
 use crate::operation::Operation;
 use crate::stop::Stop;
 use crate::symbols::Symbols;
 use crate::targets::wild;
-use lines::Line;
+use lines::{Line, Role};
 use std::alloc::Global;
 use words::{Fault, Name, Refusal};
+
+// Whether the line opens a body.
+fn opens(line: &Line<Name>) -> bool
+    ensures { result ≡ is_opens (role_of line.now) }
+{
+    matches!(line.role(), Role::Opens(_))
+}
+
+// How many lines stand before the next that opens a body.
+fn own_count(lines: &[Line<Name>]) -> usize
+    ensures { result ≡ prefix_len (λ l. not (is_opens (role_of l))) lines.now }
+{
+    lines.iter().take_while(|line| !opens(line)).count()
+}
+
+// The lines before the next that opens a body.
+fn own(lines: &[Line<Name>]) -> &[Line<Name>]
+    ensures { result.now ≡ own_of lines.now }
+{
+    &lines[..own_count(lines)]
+}
 
 impl Symbols {
     // Links text line `number`, a line of that body.
@@ -21,16 +43,14 @@ impl Symbols {
         &self,
         body: &[Line<Name>],
         number: usize,
-        line: Line<Name>,
+        line: &Line<Name>,
     ) -> Result<Operation, Fault>
-        ensures { result ≡ link_line (known_of self.now) (map line_of body.now) number (line_of line) }
+        ensures { result ≡ link_line self.now body.now number line.now }
     {
-        let Some(operation) = self.operation(line) else {
-            return Err(Fault {
-                refusal: Refusal::Unknown,
-                line: number,
-            });
-        };
+        let operation = self.operation(line).ok_or(Fault {
+            refusal: Refusal::Unknown,
+            line: number,
+        })?;
         if wild(body, line) {
             return Err(Fault {
                 refusal: Refusal::Wild,
@@ -40,58 +60,32 @@ impl Symbols {
         Ok(operation)
     }
 
-    // Links all lines of a body, the first of which is text line `first`, behind the operations that there are.
-    fn link_lines(
-        &self,
-        body: &[Line<Name>],
-        first: usize,
-        operations: &mut Vec<Operation>,
-    ) -> Result<(), Stop>
-        requires { first + length body.now < 2 ^ 64 }
-        ensures { LinksBehind (link_lines (known_of self.now) (map line_of body.now) first (map line_of body.now)) operations.old.items operations.new.items result }
+    // Links the body of those lines, which text line `number` opens. A loop, since by `try_collect` no proof closed of
+    // which fault comes first.
+    fn link_body(&self, number: usize, lines: &[Line<Name>], heap: Global) -> Result<Body, Stop>
+        requires { number + length lines.now < 2 ^ 64 }
+        ensures { Makes (λ b. b) (link_part self.now (record { line = number; lines = lines.now })) result }
     {
-        for (i, line) in body.iter().enumerate() {
-            let operation = self.link_line(body, first + i, *line)?;
-            operations.push(operation)?;
+        let mut operations = Vec::with_capacity(heap, lines.len())?;
+        for (i, line) in lines.iter().enumerate() {
+            operations.push(self.link_line(lines, number + 1 + i, line)?)?;
         }
-        Ok(())
+        Ok(Body {
+            line: number,
+            operations,
+        })
     }
 
-    // Links the body of a section, behind the operations that there are.
-    fn link_body(
-        &self,
-        lines: &[Line<Name>],
-        section: Section,
-        operations: &mut Vec<Operation>,
-    ) -> Result<Body, Stop>
-        requires { LiesIn (length lines.now) section }
-        ensures { LinksBody (link_part (known_of self.now) (part_of (map line_of lines.now) section)) operations.old.items operations.new.items result }
+    // Links all bodies of a script's lines.
+    pub(crate) fn link_bodies(&self, lines: &[Line<Name>], heap: Global) -> Result<Vec<Body>, Stop>
+        ensures { Makes vec_items (link_parts self.now (parts 1 lines.now)) result }
     {
-        let start = operations.len();
-        let line = section.line;
-        self.link_lines(&lines[line..line + section.count], line + 1, operations)?;
-        let count = operations.len() - start;
-        Ok(Body { line, start, count })
-    }
-
-    // Links the bodies of all sections.
-    pub(crate) fn link_bodies(
-        &self,
-        lines: &[Line<Name>],
-        sections: &[Section],
-        heap: Global,
-    ) -> Result<Code, Stop>
-        requires { AllByRecursion (LiesIn (length lines.now)) sections.now }
-        ensures { LinksBodies (link_parts (known_of self.now) (map (part_of (map line_of lines.now)) sections.now)) result }
-    {
-        let mut code = Code {
-            bodies: Vec::with_capacity(heap, 32)?,
-            operations: Vec::with_capacity(heap, 512)?,
-        };
-        for section in sections {
-            let body = self.link_body(lines, *section, &mut code.operations)?;
-            code.bodies.push(body)?;
+        let mut bodies = Vec::with_capacity(heap, self.bodies.len())?;
+        for (i, line) in lines.iter().enumerate() {
+            if opens(line) {
+                bodies.push(self.link_body(i + 1, own(&lines[i + 1..]), heap)?)?;
+            }
         }
-        Ok(code)
+        Ok(bodies)
     }
 }

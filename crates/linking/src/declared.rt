@@ -1,6 +1,8 @@
 // What a script declares: its channels and its bodies.
 use crate::operation::Operation;
 use lines::Kind;
+use std::marker::Model;
+use words::Name;
 
 // A channel, as its line declares it.
 #[derive(Clone, Copy)]
@@ -9,24 +11,24 @@ pub struct Declared {
     pub capacity: u32,
 }
 
-// A body in the text: the text line that opens it, and how many lines it has.
+// A channel with its name.
 #[derive(Clone, Copy)]
-pub struct Section {
-    pub(crate) line: usize,
-    pub(crate) count: usize,
+pub struct Channel {
+    pub(crate) name: Name,
+    pub(crate) declared: Declared,
 }
 
-// A linked body: the text line that opens it, and its part of the operations.
-#[derive(Clone, Copy)]
+// A linked body: the text line that opens it, and its operations.
+#[derive(Drop)]
 pub struct Body {
     pub(crate) line: usize,
-    pub(crate) start: usize,
-    pub(crate) count: usize,
+    pub(crate) operations: Vec<Operation>,
 }
 
-// All linked bodies, and the operations of all of them.
-#[derive(Drop)]
-pub struct Code {
-    pub(crate) bodies: Vec<Body>,
-    pub(crate) operations: Vec<Operation>,
+impl Model for Body {
+    ghost use Rattle.linking.specs.Programs.{Block};
+
+    ghost Value = { Block };
+
+    ghost view = { λ b. record { line = b.line; operations = b.operations.items } };
 }

@@ -8,7 +8,6 @@ mod linking;
 mod lookup;
 mod operation;
 mod stop;
-mod survey;
 mod symbols;
 mod tables;
 mod targets;

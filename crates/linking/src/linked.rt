@@ -1,6 +1,5 @@
 // The linked state of a script, and what linking answers where it refuses.
 ghost use Rattle.linking.specs.Sound.{Sound};
-ghost use Rattle.linking.specs.Stages.{program_of};
 
 use crate::stop::Stop;
 use crate::tables::Tables;
@@ -10,8 +9,8 @@ use script::Read;
 #[derive(Drop)]
 pub struct Linked {
     pub(crate) script: Read,
-    pub(crate) tables: Tables,
-    ghost sound: { ∥ Sound (program_of tables) ∥₁ },
+    pub(crate) program: Tables,
+    ghost sound: { ∥ Sound program ∥₁ },
 }
 
 // A refused linking: the script as it was, and why.

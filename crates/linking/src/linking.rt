@@ -1,6 +1,6 @@
 // Linking a script that was read, and listing one that is linked.
 ghost use Rattle.std.specs.Prelude.{◌≡◌};
-ghost use Rattle.script.specs.States.{script_of, Printed};
+ghost use Rattle.script.specs.States.{Printed};
 ghost use Rattle.script.specs.Texts.{show};
 ghost use Rattle.linking.specs.Answers.{Links, Exact};
 
@@ -13,10 +13,10 @@ use words::Refusal;
 // Links the script, or gives it back as it was with its first fault. Only want of memory is an open answer.
 pub fn link(script: Read, heap: Global) -> Result<Linked, Unlinked>
     ensures value { Links script result }
-    ensures exact { Exact (script_of script) result }
+    ensures exact { Exact script result }
 {
     match Tables::of(script.lines(), heap) {
-        Ok(tables) => Ok(Linked { script, tables }),
+        Ok(program) => Ok(Linked { script, program }),
         Err(stop) => Err(Unlinked { script, stop }),
     }
 }
@@ -24,7 +24,7 @@ pub fn link(script: Read, heap: Global) -> Result<Linked, Unlinked>
 impl Linked {
     // Writes the text of the script at the front of `out`, and answers its length.
     pub fn list(&self, out: &mut [u8]) -> Result<usize, Refusal>
-        ensures { Printed out.old (show (script_of self.now.script)) out.new result }
+        ensures { Printed out.old (show self.now.script) out.new result }
     {
         self.script.list(out)
     }

@@ -1,134 +1,136 @@
 // Looking up what the names of a line stand for.
-ghost use Rattle.std.specs.Prelude.{◌≡◌};
+ghost use Rattle.std.specs.Prelude.{◌≡◌, map};
 ghost use Rattle.std.specs.List.{slice_get};
-ghost use Rattle.std.specs.Option.{option_map};
-ghost use Rattle.words.specs.Spelled.{spelled};
-ghost use Rattle.lines.specs.Lines.{line_of, operand_of};
 ghost use Rattle.script.specs.Rules.{place};
-ghost use Rattle.linking.specs.Naming.{suits as is_suited, suited as suits_at, channel as channel_of, operand as found_operand, exchange as found_exchange, exchange_of, operation};
-ghost use Rattle.linking.specs.declared.operation.Operation.TheVariants.{Alone, Case};
-ghost use Rattle.linking.specs.Seen.{known_of};
+ghost use Rattle.linking.specs.Naming.{suits as is_suited, suited as suits_at, channel as channel_of};
+ghost use Rattle.linking.specs.Naming.{operand as found_operand, exchange as found_exchange};
+ghost use Rattle.linking.specs.Naming.{alone as alone_of, case as case_of, operation};
+ghost use Rattle.linking.specs.Links.{main_name};
 
-use crate::declared::Declared;
+use crate::declared::Channel;
 use crate::operation::{Exchange, Operation};
-use crate::symbols::{Symbols, Wanted};
+use crate::symbols::Symbols;
 use lines::{Kind, Line, Operand};
 use script::find;
 use words::Name;
 
-impl Wanted {
-    // Whether a channel of that kind is what is wanted.
-    fn suits(self, kind: Kind) -> bool
-        ensures { result ≡ is_suited self kind }
-    {
-        match (self, kind) {
-            (Wanted::Either, _) => true,
-            (Wanted::AValue, Kind::Value) => true,
-            (Wanted::AHandle, Kind::Handle) => true,
-            _ => false,
-        }
-    }
+// The number of the channel of that name. Bytes are compared, since of `==` on names no proof closed with `place`.
+fn placed(channels: &[Channel], name: Name) -> Option<usize>
+    ensures { result ≡ place name (map (λ c. c.name) channels.now) }
+{
+    let bytes = name.as_bytes();
+    channels
+        .iter()
+        .map(|c| c.name)
+        .position(|other| other.as_bytes() == bytes)
 }
 
-// Whether there is a channel of that number, and it is what is wanted.
-fn suited(channels: &[Declared], wanted: Wanted, number: usize) -> bool
-    ensures { result ≡ suits_at wanted (slice_get channels.now number) }
+// Whether that kind is wanted: any is, where none is named.
+fn suits(wanted: Option<Kind>, kind: Kind) -> bool
+    ensures { result ≡ is_suited wanted kind }
 {
-    if number < channels.len() {
-        wanted.suits(channels[number].kind)
-    } else {
-        false
-    }
+    wanted.is_none_or(|other| other == kind)
+}
+
+// Whether there is a channel of that number, of the kind that is wanted.
+fn suited(channels: &[Channel], wanted: Option<Kind>, number: usize) -> bool
+    ensures { result ≡ suits_at wanted (slice_get (map (λ c. c.declared) channels.now) number) }
+{
+    channels
+        .get(number)
+        .is_some_and(|c| suits(wanted, c.declared.kind))
 }
 
 impl Symbols {
-    // The number of the channel of that name, if it is what is wanted.
-    fn channel(&self, wanted: Wanted, name: Name) -> Option<usize>
-        ensures { result ≡ channel_of (known_of self.now) wanted (spelled name) }
+    // The number of the channel of that name, if it is of the kind that is wanted.
+    fn channel(&self, wanted: Option<Kind>, name: Name) -> Option<usize>
+        ensures { result ≡ channel_of self.now wanted name }
     {
-        let number = find(&self.names, &name)?;
-        if suited(&self.channels, wanted, number) {
-            Some(number)
-        } else {
-            None
-        }
+        placed(&self.channels, name).filter(|number| suited(&self.channels, wanted, *number))
     }
 
     // A channel operand by its number.
-    fn operand(&self, wanted: Wanted, operand: Operand<Name>) -> Option<Operand<usize>>
-        ensures { result ≡ found_operand (known_of self.now) wanted (operand_of operand) }
+    fn operand(&self, wanted: Option<Kind>, operand: Operand<Name>) -> Option<Operand<usize>>
+        ensures { result ≡ found_operand self.now wanted operand }
     {
         match operand {
-            Operand::Named(name) => Some(Operand::Named(self.channel(wanted, name)?)),
+            Operand::Named(name) => self.channel(wanted, name).map(Operand::Named),
             Operand::Held(register) => Some(Operand::Held(register)),
         }
     }
 
     // The number of the body of that name.
     fn body(&self, name: Name) -> Option<usize>
-        ensures { result ≡ place (spelled name) (known_of self.now).bodies }
+        ensures { result ≡ place name self.now.bodies }
     {
         find(&self.bodies, &name)
+    }
+
+    // The number of the body `main`.
+    pub(crate) fn main(&self) -> Option<usize>
+        ensures { result ≡ place main_name self.now.bodies }
+    {
+        self.body(Name::new(b"main")?)
     }
 }
 
 impl Symbols {
     // A send or a receive with its channel's number.
     fn exchange(&self, exchange: Exchange<Name>) -> Option<Exchange<usize>>
-        ensures { result ≡ found_exchange (known_of self.now) (exchange_of exchange) }
+        ensures { result ≡ found_exchange self.now exchange }
     {
-        match exchange {
-            Exchange::Send(o, v) => Some(Exchange::Send(self.operand(Wanted::AValue, o)?, v)),
+        Some(match exchange {
+            Exchange::Send(o, v) => Exchange::Send(self.operand(Some(Kind::Value), o)?, v),
             Exchange::Receive(o, v, w) => {
-                Some(Exchange::Receive(self.operand(Wanted::AValue, o)?, v, w))
+                Exchange::Receive(self.operand(Some(Kind::Value), o)?, v, w)
             }
             Exchange::SendHandle(x, h) => {
-                Some(Exchange::SendHandle(self.channel(Wanted::AHandle, x)?, h))
+                Exchange::SendHandle(self.channel(Some(Kind::Handle), x)?, h)
             }
             Exchange::ReceiveHandle(x, h, w) => {
-                Some(Exchange::ReceiveHandle(self.channel(Wanted::AHandle, x)?, h, w))
+                Exchange::ReceiveHandle(self.channel(Some(Kind::Handle), x)?, h, w)
             }
-        }
+        })
     }
 
     fn alone(&self, exchange: Exchange<Name>) -> Option<Operation>
-        ensures { result ≡ option_map Alone (found_exchange (known_of self.now) (exchange_of exchange)) }
+        ensures { result ≡ alone_of self.now exchange }
     {
-        Some(Operation::Alone(self.exchange(exchange)?))
+        self.exchange(exchange).map(Operation::Alone)
     }
 
     fn case(&self, exchange: Exchange<Name>, target: u32) -> Option<Operation>
-        ensures { result ≡ option_map (λ e. Case e target) (found_exchange (known_of self.now) (exchange_of exchange)) }
+        ensures { result ≡ case_of self.now exchange target }
     {
-        Some(Operation::Case(self.exchange(exchange)?, target))
+        self.exchange(exchange).map(|e| Operation::Case(e, target))
     }
 
     // What a line stands for: nothing, if one of its names stands for nothing.
-    pub(crate) fn operation(&self, line: Line<Name>) -> Option<Operation>
-        ensures { result ≡ operation (known_of self.now) (line_of line) }
+    pub(crate) fn operation(&self, line: &Line<Name>) -> Option<Operation>
+        ensures { result ≡ operation self.now line.now }
     {
-        match line {
-            Line::Set(v, n) => Some(Operation::Set(v, n)),
-            Line::Add(v, w) => Some(Operation::Add(v, w)),
-            Line::Sub(v, w) => Some(Operation::Sub(v, w)),
-            Line::Jump(t) => Some(Operation::Jump(t)),
-            Line::JumpNegative(v, t) => Some(Operation::JumpNegative(v, t)),
-            Line::Hold(h, x) => Some(Operation::Hold(h, self.channel(Wanted::AValue, x)?)),
-            Line::Clear(h) => Some(Operation::Clear(h)),
-            Line::Send(o, v) => self.alone(Exchange::Send(o, v)),
-            Line::Receive(o, v, w) => self.alone(Exchange::Receive(o, v, w)),
-            Line::SendHandle(x, h) => self.alone(Exchange::SendHandle(x, h)),
-            Line::ReceiveHandle(x, h, w) => self.alone(Exchange::ReceiveHandle(x, h, w)),
-            Line::Close(o) => Some(Operation::Close(self.operand(Wanted::Either, o)?)),
-            Line::Select(n) => Some(Operation::Select(n)),
-            Line::CaseSend(o, v, t) => self.case(Exchange::Send(o, v), t),
-            Line::CaseReceive(o, v, w, t) => self.case(Exchange::Receive(o, v, w), t),
-            Line::CaseSendHandle(x, h, t) => self.case(Exchange::SendHandle(x, h), t),
-            Line::CaseReceiveHandle(x, h, w, t) => self.case(Exchange::ReceiveHandle(x, h, w), t),
-            Line::CaseDefault(t) => Some(Operation::Default(t)),
-            Line::Start(x) => Some(Operation::Start(self.body(x)?)),
-            Line::Print(v) => Some(Operation::Print(v)),
-            Line::ValueChannel(_, _) | Line::HandleChannel(_, _) | Line::Routine(_) => None,
-        }
+        Some(match *line {
+            Line::Set(v, n) => Operation::Set(v, n),
+            Line::Add(v, w) => Operation::Add(v, w),
+            Line::Sub(v, w) => Operation::Sub(v, w),
+            Line::Jump(t) => Operation::Jump(t),
+            Line::JumpNegative(v, t) => Operation::JumpNegative(v, t),
+            Line::Hold(h, x) => Operation::Hold(h, self.channel(Some(Kind::Value), x)?),
+            Line::Clear(h) => Operation::Clear(h),
+            Line::Send(o, v) => self.alone(Exchange::Send(o, v))?,
+            Line::Receive(o, v, w) => self.alone(Exchange::Receive(o, v, w))?,
+            Line::SendHandle(x, h) => self.alone(Exchange::SendHandle(x, h))?,
+            Line::ReceiveHandle(x, h, w) => self.alone(Exchange::ReceiveHandle(x, h, w))?,
+            Line::Close(o) => Operation::Close(self.operand(None, o)?),
+            Line::Select(n) => Operation::Select(n),
+            Line::CaseSend(o, v, t) => self.case(Exchange::Send(o, v), t)?,
+            Line::CaseReceive(o, v, w, t) => self.case(Exchange::Receive(o, v, w), t)?,
+            Line::CaseSendHandle(x, h, t) => self.case(Exchange::SendHandle(x, h), t)?,
+            Line::CaseReceiveHandle(x, h, w, t) => self.case(Exchange::ReceiveHandle(x, h, w), t)?,
+            Line::CaseDefault(t) => Operation::Default(t),
+            Line::Start(x) => Operation::Start(self.body(x)?),
+            Line::Print(v) => Operation::Print(v),
+            Line::ValueChannel(_, _) | Line::HandleChannel(_, _) | Line::Routine(_) => return None,
+        })
     }
 }

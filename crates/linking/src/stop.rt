@@ -5,7 +5,7 @@ ghost use Rattle.linking.specs.declared.stop.Stop.TheVariants.{Faulty, Memory};
 use std::alloc::{AllocError, AllocFailed};
 use words::Fault;
 
-#[derive(Clone, Copy)]
+#[derive(Clone, Copy, Debug, PartialEq, Eq)]
 pub enum Stop {
     // the script's first fault
     Faulty(Fault),

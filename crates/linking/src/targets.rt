@@ -1,6 +1,5 @@
 // Where a line may lead in its body.
-ghost use Rattle.std.specs.Prelude.{◌≡◌, map, Some as Target};
-ghost use Rattle.lines.specs.Lines.{line_of};
+ghost use Rattle.std.specs.Prelude.{◌≡◌, Some as Target};
 ghost use Rattle.lines.specs.Roles.{role};
 ghost use Rattle.script_laws.specs.Lawful.{is_case};
 ghost use Rattle.linking.specs.Parts.{target as target_of, wild as is_wild};
@@ -9,10 +8,10 @@ use lines::{Line, Role};
 use words::Name;
 
 // The line of its body that a line leads to, counted from 0.
-fn target(line: Line<Name>) -> Option<u32>
-    ensures { result ≡ target_of (line_of line) }
+fn target(line: &Line<Name>) -> Option<u32>
+    ensures { result ≡ target_of line.now }
 {
-    match line {
+    match *line {
         Line::Jump(t)
         | Line::JumpNegative(_, t)
         | Line::CaseSend(_, _, t)
@@ -25,31 +24,22 @@ fn target(line: Line<Name>) -> Option<u32>
 }
 
 // Whether it is a case line, the default too.
-fn stands_as_case(line: Line<Name>) -> bool
-    ensures { result ≡ is_case (role (line_of line)) }
+fn stands_as_case(line: &Line<Name>) -> bool
+    ensures { result ≡ is_case (role line.now) }
 {
-    match line.role() {
-        Role::Case | Role::Default => true,
-        _ => false,
-    }
+    matches!(line.role(), Role::Case | Role::Default)
 }
 
 // Whether line t lies beyond the end of the body, or is a case line.
 fn out_of_reach(body: &[Line<Name>], t: usize) -> bool
-    ensures { result ≡ is_wild (map line_of body.now) (Target t) }
+    ensures { result ≡ is_wild body.now (Target t) }
 {
-    if t < body.len() {
-        return stands_as_case(body[t]);
-    }
-    t > body.len()
+    t > body.len() || body.get(t).is_some_and(stands_as_case)
 }
 
 // Whether a line leads to no place in its body where it may.
-pub(crate) fn wild(body: &[Line<Name>], line: Line<Name>) -> bool
-    ensures { result ≡ is_wild (map line_of body.now) (target_of (line_of line)) }
+pub(crate) fn wild(body: &[Line<Name>], line: &Line<Name>) -> bool
+    ensures { result ≡ is_wild body.now (target_of line.now) }
 {
-    match target(line) {
-        Some(t) => out_of_reach(body, t as usize),
-        None => false,
-    }
+    target(line).is_some_and(|t| out_of_reach(body, t as usize))
 }

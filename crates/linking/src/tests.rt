@@ -5,28 +5,21 @@ use std::alloc::Global;
 use std::test::Fail;
 use words::{Fault, Refusal};
 
-fn script_of(heap: Global, text: &[u8]) -> Result<Read, Fail> {
-    match Empty::new(heap)?.read(text) {
-        Ok(script) => Ok(script),
-        Err(_) => Err(Fail::new("the text is not read")),
-    }
+fn read(heap: Global, text: &[u8]) -> Result<Read, Fail> {
+    Empty::new(heap)?
+        .read(text)
+        .map_err(|_| Fail::new("the text is not read"))
 }
 
 fn linked(heap: Global, text: &[u8]) -> Result<Linked, Fail> {
-    match link(script_of(heap, text)?, heap) {
-        Ok(linked) => Ok(linked),
-        Err(_) => Err(Fail::new("the script is not linked")),
-    }
+    link(read(heap, text)?, heap).map_err(|_| Fail::new("the script is not linked"))
 }
 
-// The first fault of a script that is read.
-fn fault_of(heap: Global, text: &[u8]) -> Result<Fault, Fail> {
-    let Err(unlinked) = link(script_of(heap, text)?, heap) else {
-        return Err(Fail::new("the script is linked"));
-    };
-    match unlinked.stop {
-        Stop::Faulty(fault) => Ok(fault),
-        Stop::Memory => Err(Fail::new("memory is wanting")),
+// Why a script that is read is not linked.
+fn stop_of(heap: Global, text: &[u8]) -> Result<Stop, Fail> {
+    match link(read(heap, text)?, heap) {
+        Ok(_) => Err(Fail::new("the script is linked")),
+        Err(unlinked) => Ok(unlinked.stop),
     }
 }
 
@@ -44,29 +37,29 @@ fn a_script_links_and_lists(rt: HostRuntime) -> Result<(), Fail> {
 // The lowest number of the first faulty line; that there is no `main` is found last.
 #[test]
 fn a_fault_has_its_number_and_line(rt: HostRuntime) -> Result<(), Fail> {
-    let unknown = fault_of(rt.alloc(), b"VC a 0\nRT main\nSD b v0\nJP 9\n")?;
+    let unknown = stop_of(rt.alloc(), b"VC a 0\nRT main\nSD b v0\nJP 9\n")?;
     assert_eq!(rt;
         unknown,
-        Fault {
+        Stop::Faulty(Fault {
             refusal: Refusal::Unknown,
             line: 3
-        }
+        })
     );
-    let wild = fault_of(rt.alloc(), b"RT w\nJP 2\n")?;
+    let wild = stop_of(rt.alloc(), b"RT w\nJP 2\n")?;
     assert_eq!(rt;
         wild,
-        Fault {
+        Stop::Faulty(Fault {
             refusal: Refusal::Wild,
             line: 2
-        }
+        })
     );
-    let no_main = fault_of(rt.alloc(), b"RT w\nJP 1\n")?;
+    let no_main = stop_of(rt.alloc(), b"RT w\nJP 1\n")?;
     assert_eq!(rt;
         no_main,
-        Fault {
+        Stop::Faulty(Fault {
             refusal: Refusal::Unknown,
             line: 0
-        }
+        })
     );
     Ok(())
 }

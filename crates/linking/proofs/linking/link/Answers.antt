@@ -1,20 +1,19 @@
-use Rattle.std.proofs.Common.{◌≡◌, Ok, Err, sym, ap, ◌∙◌, subst}
+use Rattle.std.proofs.Common.{sym, ap, ◌∙◌, subst}
 use Rattle.std.proofs.Math.Logic.{∥∥₁_map}
-use Rattle.script.specs.States.{script_of}
 use Rattle.linking.specs.Links.{link_script}
-use Rattle.linking.specs.Stages.{program_of, LinksScript}
+use Rattle.linking.specs.Stages.{Stopped}
 use Rattle.linking.proofs.Answered.{made_exactly, none_for}
 use Rattle.linking.proofs.linking.link.Goals as goal
 
 pub invariant_of-result : goal.invariant_of-result
 invariant_of-result c =
-    let e : link_script (script_of c.args.script) ≡ Ok (program_of c.in-Ok.tables) = ap link_script (sym c.lines.ensures) ∙ c.in-Ok.ensures in
-    record { sound = ∥∥₁_map (made_exactly (script_of c.args.script) (program_of c.in-Ok.tables) c.args.script.kept e) (λ p. p.1) }
+    let made = made_exactly c.args.script c.in-Ok.program c.lines.ensures.kept (ap link_script (sym c.lines.ensures.lines) ∙ c.in-Ok.ensures) in
+    record { sound = ∥∥₁_map made (λ p. p.1) }
 
 pub returns-in-Ok-clause-exact : goal.returns-in-Ok-clause-exact
 returns-in-Ok-clause-exact c =
-    made_exactly (script_of c.args.script) (program_of c.in-Ok.tables) c.args.script.kept (ap link_script (sym c.lines.ensures) ∙ c.in-Ok.ensures)
+    made_exactly c.args.script c.in-Ok.program c.lines.ensures.kept (ap link_script (sym c.lines.ensures.lines) ∙ c.in-Ok.ensures)
 
 pub returns-in-Err-clause-exact : goal.returns-in-Err-clause-exact
 returns-in-Err-clause-exact c =
-    none_for (script_of c.args.script) c.in-Err.stop c.args.script.kept (subst (λ ls. LinksScript (link_script ls) (Err c.in-Err.stop)) c.lines.ensures c.in-Err.ensures)
+    none_for c.args.script c.in-Err.stop c.lines.ensures.kept (subst (λ ls. Stopped (link_script ls) c.in-Err.stop) c.lines.ensures.lines c.in-Err.ensures)

@@ -1,27 +1,39 @@
-use Rattle.std.proofs.Common.{map, length, vec_items, ◌∙◌}
-use Rattle.std.proofs.ByRecursion.{All-get_or}
+use Rattle.std.proofs.Common.{◌+◌, drop, vec_items, sym, ap, ◌∙◌}
 use Rattle.std.proofs.lemmas.Result.{err_from_is_err_and}
-use Rattle.lines.specs.Lines.{line_of}
-use Rattle.linking.specs.Seen.{known_of}
-use Rattle.linking.specs.Stages.{LiesIn}
-use Rattle.linking.proofs.Stages.{bodies_stops, bodies_all, stage_again}
+use Rattle.linking.specs.Parts.{parts}
+use Rattle.linking.specs.Links.{both, link_parts}
+use Rattle.linking.proofs.Stages.{behind, behind_more, stops_too, body_on, no_body_on, bodies_done}
 use Rattle.linking.proofs.symbols.Symbols.link_bodies.Goals as goal
+use Rattle.linking.proofs.symbols.Symbols.link_bodies.Goals.{then-opens+in_ok-link_body+in_ok-push, else-opens}
 
-pub link_body-requires : goal.link_body-requires
-link_body-requires c = All-get_or (LiesIn (length c.args.lines.now)) c.args.sections.now c.loop-section.section-index (record { line = 0; count = 0 }) c.loop-section-test.true c.requires
-
-pub returns-in_err-body : goal.returns-in_err-body
-returns-in_err-body c =
-    let p = err_from_is_err_and c.from_residual-in_err-body.result c.from_residual-in_err-body.ensures.1 in
+pub returns-in_err-link_body : goal.returns-in_err-link_body
+returns-in_err-link_body c =
+    let p = err_from_is_err_and c.from_residual-in_err-link_body.result c.from_residual-in_err-link_body.ensures.1 in
+    let k = c.args.self.now in
+    let ls = c.args.lines.now in
+    let i = c.loop-i.i in
+    let on = body_on k ls i c.index-lines-i.result c.loop-i-test.true c.index-lines-i.is c.own.result.now c.own.ensures c.if-opens.ensures in
     rw (p.1, p.2)
-    (bodies_stops (known_of c.args.self.now) (map line_of c.args.lines.now) c.args.sections.now c.loop-section.section-index (record { line = 0; count = 0 }) _ (vec_items c.loop-section.code.operations) (vec_items c.link_body.new.operations) c.in_err-body.field-0.0 c.loop-section-test.true c.loop-section.invariant.1 c.in_err-body.ensures)
+    (stops_too _ (link_parts k (parts 1 ls)) c.in_err-link_body.field-0.0
+    (λ f stop. c.loop-i.invariant ∙ ap (behind (vec_items c.loop-i.bodies)) (on ∙ ap (λ r. both r (link_parts k (parts (i + 1 + 1) (drop (i + 1) ls)))) stop)) c.in_err-link_body.ensures)
 
-pub loop-section-preserved : goal.loop-section-preserved
-loop-section-preserved c =
-    let x = c.in_ok-body.ensures in
-    stage_again (known_of c.args.self.now) (map line_of c.args.lines.now) c.args.sections.now c.loop-section.section-index (record { line = 0; count = 0 })
-    (vec_items c.loop-section.code.operations) (vec_items c.loop-section.code.bodies) x.0 c.in_ok-body.body _ _
-    x.1 c.in_ok-push.ensures.items c.loop-section-test.true c.loop-section.invariant x.2 x.3 x.4
+pub loop-i-preserved : goal.loop-i-preserved
+loop-i-preserved c =
+    let k = c.args.self.now in
+    let ls = c.args.lines.now in
+    let i = c.loop-i.i in
+    let rest = link_parts k (parts (i + 1 + 1) (drop (i + 1) ls)) in
+    elim c.if-opens.branch [
+      | then-opens+in_ok-link_body+in_ok-push w ↦
+          c.loop-i.invariant
+          ∙ ap (behind (vec_items c.loop-i.bodies)) (body_on k ls i c.index-lines-i.result c.loop-i-test.true c.index-lines-i.is w.own.result.now w.own.ensures w.if-opens.ensures ∙ ap (λ r. both r rest) w.in_ok-link_body.ensures)
+          ∙ behind_more (vec_items c.loop-i.bodies) w.in_ok-link_body.field-0 rest
+          ∙ ap (λ done. behind done rest) (sym w.in_ok-push.ensures.items ∙ ap vec_items (sym w.bodies-is))
+      | else-opens w ↦
+          c.loop-i.invariant
+          ∙ ap (behind (vec_items c.loop-i.bodies)) (no_body_on k ls i c.index-lines-i.result c.loop-i-test.true c.index-lines-i.is w.if-opens.ensures)
+          ∙ ap (λ done. behind done rest) (ap vec_items (sym w.bodies-is))
+    ]
 
 pub returns : goal.returns
-returns c = c.loop-section.invariant.1 ∙ bodies_all (known_of c.args.self.now) (map line_of c.args.lines.now) c.args.sections.now c.loop-section.section-index _ c.loop-section-test.false
+returns c = c.loop-i.invariant ∙ bodies_done c.args.self.now c.args.lines.now (c.loop-i.i + 1) c.loop-i.i (vec_items c.loop-i.bodies) c.loop-i-test.false

@@ -1,34 +1,29 @@
-use Rattle.std.proofs.Common.{length, Err, vec_items, Result, sym, ap, ◌∙◌, subst, arith}
-use Rattle.std.proofs.lemmas.List.{length-append}
+use Rattle.std.proofs.Common.{◌+◌, drop, vec_items, sym, ap, ◌∙◌}
 use Rattle.std.proofs.lemmas.Result.{err_from_is_err_and}
-use Rattle.words.specs.declared.refusal.Fault.{Fault}
-use Rattle.linking.specs.Programs.{Block}
-use Rattle.linking.specs.Links.{blocked}
-use Rattle.linking.specs.Seen.{known_of}
-use Rattle.linking.specs.Stages.{LinksBody}
-use Rattle.linking.proofs.Stages.{part_linked, body_stops}
+use Rattle.linking.specs.Links.{both, blocked, link_lines}
+use Rattle.linking.proofs.Stages.{behind, behind_more, lines_on, lines_done}
 use Rattle.linking.proofs.symbols.Symbols.link_body.Goals as goal
 
-pub returns-in_err-link_lines : goal.returns-in_err-link_lines
-returns-in_err-link_lines c =
-    let p = err_from_is_err_and c.from_residual.result c.from_residual.ensures.1 in
-    let s = c.in_err-link_lines.field-0.0 in
-    let P : Result Block Fault → Type 0 = λ want. LinksBody want (vec_items c.args.operations.now) (vec_items c.link_lines.new.operations) (Err s) in
+pub returns-in_err-link_line : goal.returns-in_err-link_line
+returns-in_err-link_line c =
+    let p = err_from_is_err_and c.from_residual-in_err-link_line.result c.from_residual-in_err-link_line.ensures.1 in
+    let k = c.args.self.now in
+    let ls = c.args.lines.now in
+    let on = lines_on k ls c.loop-i.i c.index-lines-i.result c.loop-i-test.true c.index-lines-i.is ls (c.args.number + 1) in
     rw (p.1, p.2)
-    (subst P (sym (part_linked (known_of c.args.self.now) c.args.lines.now c.args.section))
-    (body_stops c.args.section.line _ (vec_items c.args.operations.now) (vec_items c.link_lines.new.operations) s c.in_err-link_lines.ensures))
+    (ap (blocked c.args.number) (c.loop-i.invariant ∙ ap (behind (vec_items c.loop-i.operations)) (on ∙ ap (λ r. both r (link_lines k ls (c.args.number + 1 + (c.loop-i.i + 1)) (drop (c.loop-i.i + 1) ls))) (sym c.in_err-link_line.ensures))))
 
-pub overflow_sub-count : goal.overflow_sub-count
-overflow_sub-count c =
-    let x = c.in_ok-link_lines.ensures in
-    omega (arith, ap length x.2, length-append (vec_items c.args.operations.now) x.0, c.args.operations.now.ok.0, c.link_lines.new.operations.ok.0)
+pub loop-i-preserved : goal.loop-i-preserved
+loop-i-preserved c =
+    let k = c.args.self.now in
+    let ls = c.args.lines.now in
+    let rest = link_lines k ls (c.args.number + 1 + (c.loop-i.i + 1)) (drop (c.loop-i.i + 1) ls) in
+    let on = lines_on k ls c.loop-i.i c.index-lines-i.result c.loop-i-test.true c.index-lines-i.is ls (c.args.number + 1) in
+    c.loop-i.invariant
+    ∙ ap (behind (vec_items c.loop-i.operations)) (on ∙ ap (λ r. both r rest) (sym c.in_ok-link_line.ensures))
+    ∙ behind_more (vec_items c.loop-i.operations) c.in_ok-link_line.field-0 rest
+    ∙ ap (λ done. behind done rest) (sym c.in_ok-push.ensures.items)
 
 pub returns : goal.returns
 returns c =
-    let x = c.in_ok-link_lines.ensures in (
-      x.0,
-      x.2,
-      omega (arith, c.args.operations.now.ok.0),
-      omega (arith, ap length x.2, length-append (vec_items c.args.operations.now) x.0, c.args.operations.now.ok.0, c.link_lines.new.operations.ok.0),
-      part_linked (known_of c.args.self.now) c.args.lines.now c.args.section ∙ ap (blocked c.args.section.line) x.1,
-    )
+    ap (blocked c.args.number) (c.loop-i.invariant ∙ lines_done c.args.self.now c.args.lines.now c.args.lines.now (c.args.number + 1 + c.loop-i.i) c.loop-i.i (vec_items c.loop-i.operations) c.loop-i-test.false)
