@@ -8,7 +8,7 @@ use crate::line::{Line, Operand};
 use words::Field::{Handle, Integer, Name as Named, Natural, Value};
 use words::{Field, Name, Page, Refusal};
 
-// What is listed of a channel operand.
+// What is listed of a channel operand. No `From`: an `into()` among the fields would not say what it makes.
 fn operand(channel: Operand<Name>) -> Field
     ensures { field_said result ≡ from_operand channel }
 {

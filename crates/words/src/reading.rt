@@ -34,13 +34,14 @@ pub fn cut(text: &[u8], separator: u8) -> (&[u8], &[u8])
     }
 }
 
-// Whether std's `parse` may take what is no number here.
+// Whether a plus, a zero before more or -0 stands first: std's `parse` takes these, and no number begins so.
 fn is_loose(bytes: &[u8]) -> bool
     ensures { result ≡ loose bytes.now }
 {
     matches!(bytes, [b'+', ..] | [b'0', _, ..] | [b'-', b'0', ..])
 }
 
+// The number that the bytes write.
 fn number(bytes: &[u8]) -> Option<i32>
     ensures { result ≡ number_of bytes.now }
 {
@@ -61,10 +62,10 @@ fn classify(bytes: &[u8], line: usize) -> Result<Word<'_>, Fault>
         [b'v', d @ b'0'..=b'7'] => Ok(Word::Value(*d - b'0')),
         [b'h', d @ b'0'..=b'3'] => Ok(Word::Handle(*d - b'0')),
         _ if is_name(bytes) => Ok(Word::Name(bytes)),
-        _ => match number(bytes) {
-            Some(n) => Ok(Word::Number(n)),
-            None => Err(Fault::broken(line)),
-        },
+        _ => {
+            let n = number(bytes).ok_or(Fault::broken(line))?;
+            Ok(Word::Number(n))
+        }
     }
 }
 
