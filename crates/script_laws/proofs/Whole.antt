@@ -3,6 +3,7 @@ use Rattle.std.proofs.Common.{◌≡◌, ℕ, ◌≤◌, Bool, true, false, cond
 use Rattle.std.specs.Option.{option_to_list}
 use Rattle.std.specs.List.{flat_map, prefix_len, AllByRecursion}
 use Rattle.std.proofs.lemmas.List.{append_assoc, append-nil}
+use Rattle.std.proofs.lemmas.Option.{none-some}
 use Rattle.std.proofs.lemmas.Bool.{or_parts, or_from, ltb-false, le-ltb, cond-false, false≢true}
 use Rattle.words.specs.declared.refusal.Refusal.{Refusal}
 use Rattle.words.specs.declared.refusal.Refusal.TheVariants.{Misplaced, Full, Twice}
@@ -10,7 +11,6 @@ use Rattle.lines.specs.declared.line.Line.{Line}
 use Rattle.lines.specs.declared.line.Role.{Role}
 use Rattle.lines.specs.declared.line.Role.TheVariants.{Declares, Opens, Selects, Acts, Case, Default}
 use Rattle.lines.specs.Roles.{role}
-use Rattle.text_laws.proofs.Numbers.{none_some}
 use Rattle.script.specs.Rules.{Standing, fresh, standing, judge, misplaced, full, twice, after, declares, opens, known}
 use Rattle.script.specs.Texts.{none_left}
 use Rattle.script.specs.Kept.{Admitted}
@@ -29,7 +29,7 @@ record Passed (s : Standing) (r : Role (List ℕ)) (last : Bool) : Type 0 where
   body : known (opens r) s.bodies ≡ false
 
 unrefused : (b : Bool) (why : Refusal) (o : Option Refusal) → cond b (Some why) o ≡ None → (b ≡ false) × (o ≡ None)
-unrefused true why o e = absurd (none_some (sym e))
+unrefused true why o e = absurd (none-some _ (sym e))
 unrefused false why o e = (refl, e)
 
 none_due : (last : Bool) (n : ℕ) → (last && ltb 0 n) ≡ false → last ≡ true → n ≡ 0

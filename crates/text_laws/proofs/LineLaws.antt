@@ -1,6 +1,7 @@
 -- A line and its text, both ways.
 use Rattle.std.proofs.Common.{◌≡◌, ℕ, ◌<◌, Bool, true, ◌&&◌, eqb, ltb, List, [], ◌∷◌, ◌++◌, get_or, drop, ℤ, pos, negsuc, Some, None, Ok, Err, Option, Result, sym, refl, ap, ◌∙◌, subst, ⊎_elim, arith}
 use Rattle.std.specs.List.{AllByRecursion}
+use Rattle.std.proofs.lemmas.Option.{none-some}
 use Rattle.std.proofs.lemmas.Bool.{and_parts, eqb-true, ltb-true}
 use Rattle.words.specs.declared.refusal.Fault.{Fault}
 use Rattle.words.specs.Refusals.{broken}
@@ -15,7 +16,7 @@ use Rattle.lines.specs.Lines.{Reader, then, read_field, kept, only, as_value, as
 use Rattle.lines.specs.Shows.{show_line, from_operand, natural, Good}
 use Rattle.lines.proofs.Marks.{no_mark, marked}
 use Rattle.text_laws.specs.Laws.{ReadsBack, ListsBack, NoEnd}
-use Rattle.text_laws.proofs.Numbers.{either, none_some, some_same}
+use Rattle.text_laws.proofs.Numbers.{either, some_same}
 use Rattle.text_laws.proofs.WordLaws.{err_ok, ok_same, free_word, read_word_there, read_word_back}
 
 -- ---- what a reader reads, s writes in front of the rest, and the other way;
@@ -116,23 +117,23 @@ module _ {X : Type 0} {p : Reader X} {s : X → List ℕ → List ℕ} {G : X �
 
 -- ---- the kinds of field
 value_from : (w : Said) (x : ℕ) → as_value w ≡ Some x → value x ≡ w
-value_from (name y) x e = absurd (none_some e)
-value_from (number z) x e = absurd (none_some e)
+value_from (name y) x e = absurd (none-some _ e)
+value_from (number z) x e = absurd (none-some _ e)
 value_from (value n) x e = ap value (sym (some_same e))
-value_from (handle n) x e = absurd (none_some e)
+value_from (handle n) x e = absurd (none-some _ e)
 
 integer_from : (w : Said) (x : ℤ) → as_integer w ≡ Some x → number x ≡ w
-integer_from (name y) x e = absurd (none_some e)
+integer_from (name y) x e = absurd (none-some _ e)
 integer_from (number z) x e = ap number (sym (some_same e))
-integer_from (value n) x e = absurd (none_some e)
-integer_from (handle n) x e = absurd (none_some e)
+integer_from (value n) x e = absurd (none-some _ e)
+integer_from (handle n) x e = absurd (none-some _ e)
 
 natural_from : (w : Said) (x : ℕ) → as_natural w ≡ Some x → number (pos x) ≡ w
-natural_from (name y) x e = absurd (none_some e)
+natural_from (name y) x e = absurd (none-some _ e)
 natural_from (number (pos n)) x e = ap (λ k. number (pos k)) (sym (some_same e))
-natural_from (number (negsuc n)) x e = absurd (none_some e)
-natural_from (value n) x e = absurd (none_some e)
-natural_from (handle n) x e = absurd (none_some e)
+natural_from (number (negsuc n)) x e = absurd (none-some _ e)
+natural_from (value n) x e = absurd (none-some _ e)
+natural_from (handle n) x e = absurd (none-some _ e)
 
 operand_to : (x : Operand (List ℕ)) → as_operand (from_operand x) ≡ Some x
 operand_to (Named y) = refl
@@ -140,21 +141,21 @@ operand_to (Held n) = refl
 
 operand_from : (w : Said) (x : Operand (List ℕ)) → as_operand w ≡ Some x → from_operand x ≡ w
 operand_from (name y) x e = ap from_operand (sym (some_same e))
-operand_from (number z) x e = absurd (none_some e)
-operand_from (value n) x e = absurd (none_some e)
+operand_from (number z) x e = absurd (none-some _ e)
+operand_from (value n) x e = absurd (none-some _ e)
 operand_from (handle n) x e = ap from_operand (sym (some_same e))
 
 handle_from : (w : Said) (x : ℕ) → as_handle w ≡ Some x → handle x ≡ w
-handle_from (name y) x e = absurd (none_some e)
-handle_from (number z) x e = absurd (none_some e)
-handle_from (value n) x e = absurd (none_some e)
+handle_from (name y) x e = absurd (none-some _ e)
+handle_from (number z) x e = absurd (none-some _ e)
+handle_from (value n) x e = absurd (none-some _ e)
 handle_from (handle n) x e = ap handle (sym (some_same e))
 
 name_from : (w : Said) (x : List ℕ) → as_name w ≡ Some x → name x ≡ w
 name_from (name y) x e = ap name (sym (some_same e))
-name_from (number z) x e = absurd (none_some e)
-name_from (value n) x e = absurd (none_some e)
-name_from (handle n) x e = absurd (none_some e)
+name_from (number z) x e = absurd (none-some _ e)
+name_from (value n) x e = absurd (none-some _ e)
+name_from (handle n) x e = absurd (none-some _ e)
 
 -- a reader of one kind of field
 abbrev One : {X : Type 0} → (Said → Option X) → (X → Said) → Type 0

@@ -4,6 +4,7 @@ use Rattle.std.specs.Fmt.{signed_decimal}
 use Rattle.std.specs.Str.{all_ascii_digits}
 use Rattle.std.proofs.lemmas.Fmt.{decimal_digit, decimal_nonempty, first_decimal, digits_decimal, digits_value-decimal, decimal-digits_value}
 use Rattle.std.proofs.lemmas.Str.Parse.{IsNumeralModel, numerals_by_fold, digit_at}
+use Rattle.std.proofs.lemmas.Option.{none-some}
 use Rattle.std.proofs.lemmas.Bool.{cases_lt, and_parts, and_from, cond-true, cond-false, ne_eqb, eqb-true, leb-true, le-leb}
 use Rattle.std.proofs.lemmas.Bool.Decides.{nat_tests}
 use Rattle.words.specs.Words.{read_on, plain, digits_within, numeral_within, negated, posited, number_of, number, Sound}
@@ -15,9 +16,6 @@ own = numerals_by_fold _ (search rules) read_on (search rules)
 pub either : {X : Type 0} (b : Bool) (x y z : X) → cond b x y ≡ z → ((b ≡ true) × (x ≡ z)) ⊎ ((b ≡ false) × (y ≡ z))
 either true x y z e = inl (refl, e)
 either false x y z e = inr (refl, e)
-
-pub none_some : {X : Type 0} {x : X} → ◌≡◌ {A = Option X} None (Some x) → ⊥
-none_some e = let z : ◌≡◌ {A = ℕ} 0 1 = cc in omega arith
 
 pub some_same : {X : Type 0} {x y : X} → ◌≡◌ {A = Option X} (Some x) (Some y) → x ≡ y
 some_same e = cc
@@ -35,9 +33,9 @@ numeral_back limit ds m small e =
     let some : 0 < length ds = grind (arith, nat_tests) in
     let lead : get_or ds 0 0 ≡ 48 → length ds ≡ 1 = λ z. grind (arith, nat_tests) in
     (omega arith, ap decimal (sym same) ∙ decimal-digits_value own ds parts.0 some lead (omega arith)))
-    (λ q. absurd (none_some q.1))
+    (λ q. absurd (none-some _ q.1))
     (either (all_ascii_digits ds && leb (read_on 0 ds) limit) (Some (read_on 0 ds)) None (Some m) p.1))
-    (λ p. absurd (none_some p.1))
+    (λ p. absurd (none-some _ p.1))
     (either (plain ds) (digits_within limit ds) None (Some m) e)
 
 first_rest : (t : List ℕ) (c : ℕ) → get_or t 0 0 ≡ suc c → suc c ∷ drop 1 t ≡ t
@@ -45,15 +43,15 @@ first_rest [] c e = absurd (omega arith)
 first_rest (x ∷ t) c e = ap (λ y. y ∷ t) (sym e)
 
 posited_back : (t : List ℕ) (o : Option ℕ) (z : ℤ) → o ≡ numeral_within 2147483647 t → posited o ≡ Some z → Sound (number z) × (signed_decimal z ≡ t)
-posited_back t None z from e = absurd (none_some e)
+posited_back t None z from e = absurd (none-some _ e)
 posited_back t (Some m) z from e =
     let b = numeral_back 2147483647 t m (omega arith) (sym from) in
     let P : ℤ → Type 0 = λ y. Sound (number y) × (signed_decimal y ≡ t) in
     subst P (some_same e) (omega (arith, b.0), b.1)
 
 negated_back : (t : List ℕ) (o : Option ℕ) (z : ℤ) → get_or t 0 0 ≡ 45 → o ≡ numeral_within 2147483648 (drop 1 t) → negated o ≡ Some z → Sound (number z) × (signed_decimal z ≡ t)
-negated_back t None z minus from e = absurd (none_some e)
-negated_back t (Some zero) z minus from e = absurd (none_some e)
+negated_back t None z minus from e = absurd (none-some _ e)
+negated_back t (Some zero) z minus from e = absurd (none-some _ e)
 negated_back t (Some (suc k)) z minus from e =
     let b = numeral_back 2147483648 (drop 1 t) (suc k) (omega arith) (sym from) in
     let P : ℤ → Type 0 = λ y. Sound (number y) × (signed_decimal y ≡ t) in
