@@ -65,7 +65,8 @@ pub enum Event {
     Stall(u8),
 }
 
-// Which case was picked for which routine.
+// Which case was picked for which routine. Not a schedule's `Pick`, in which any numbers may stand: these are bytes, so
+// that a report stays short.
 #[derive(Clone, Copy)]
 pub struct Picked {
     pub routine: u8,

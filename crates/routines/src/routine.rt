@@ -2,7 +2,8 @@
 use crate::item::Item;
 use elements::{Handle, Value};
 
-// How a routine passes by a case that it was released with. Channels go by their number.
+// How a routine passes by a case that it was released with. Channels go by their number. Not a report's `Pass`: that has
+// the code of an element, and a default, by which nobody is released.
 #[derive(Clone, Copy)]
 pub enum Passed {
     Sent(usize, Item),
