@@ -1,8 +1,9 @@
 // Where a line may lead in its body.
 ghost use Rattle.std.specs.Prelude.{◌≡◌, Some as Target};
+ghost use Rattle.std.specs.List.{slice_get};
 ghost use Rattle.lines.specs.Roles.{role};
 ghost use Rattle.script_laws.specs.Lawful.{is_case};
-ghost use Rattle.linking.specs.Parts.{target as target_of, wild as is_wild};
+ghost use Rattle.linking.specs.Parts.{target as target_of, case_line, wild as is_wild};
 
 use lines::{Line, Role};
 use words::Name;
@@ -30,11 +31,18 @@ fn stands_as_case(line: &Line<Name>) -> bool
     matches!(line.role(), Role::Case | Role::Default)
 }
 
+// Whether line t of the body is a case line.
+fn case_at(body: &[Line<Name>], t: usize) -> bool
+    ensures { result ≡ case_line (slice_get body.now t) }
+{
+    body.get(t).is_some_and(stands_as_case)
+}
+
 // Whether line t lies beyond the end of the body, or is a case line.
 fn out_of_reach(body: &[Line<Name>], t: usize) -> bool
     ensures { result ≡ is_wild body.now (Target t) }
 {
-    t > body.len() || body.get(t).is_some_and(stands_as_case)
+    t > body.len() || case_at(body, t)
 }
 
 // Whether a line leads to no place in its body where it may.
