@@ -3,7 +3,7 @@ use Rattle.std.specs.Prelude.{◌≡◌, ℕ, ◌+◌, ◌≤◌, cond, List, �
 use Rattle.words.specs.declared.refusal.Refusal.{Refusal}
 use Rattle.words.specs.declared.refusal.Refusal.TheVariants.{Small}
 use Rattle.words.specs.declared.page.Page.{Page}
-use Rattle.words.specs.Pages.{Wrote}
+use Rattle.words.specs.Pages.{page_len, page_size, Wrote}
 
 -- the text stands at the front of what there was, if that has 128 bytes; else nothing changed
 pub record Printed (out t out' : List ℕ) (r : Result ℕ Refusal) : Type 0 where
@@ -12,6 +12,6 @@ pub record Printed (out t out' : List ℕ) (r : Result ℕ Refusal) : Type 0 whe
 
 -- ys is written next, and has at most 128 bytes, on a page that has room for so many
 pub record PrintsShort (p : Page) (ys : List ℕ) (q : Page) (r : Result (Unit {0}) Refusal) : Type 0 where
-  pub answer : p.len + 128 ≤ length p.out.now → r ≡ Ok tt
-  pub after : p.len + 128 ≤ length p.out.now → Wrote p ys q
-  pub short : p.len + 128 ≤ length p.out.now → length ys ≤ 128
+  pub answer : page_len p + 128 ≤ page_size p → r ≡ Ok tt
+  pub after : page_len p + 128 ≤ page_size p → Wrote p ys q
+  pub short : page_len p + 128 ≤ page_size p → length ys ≤ 128

@@ -5,6 +5,13 @@ use Rattle.words.specs.declared.refusal.Refusal.{Refusal}
 use Rattle.words.specs.declared.refusal.Refusal.TheVariants.{Small}
 use Rattle.words.specs.declared.page.Page.{Page}
 
+-- how many bytes are written, and how many there are
+abbrev pub page_len : Page → ℕ
+page_len p = p.len
+
+abbrev pub page_size : Page → ℕ
+page_size p = length p.out.now
+
 -- a page over that buffer, with nothing on it
 pub record Begins (out : MutBor (List ℕ)) (p : Page) : Type 0 where
   pub len : p.len ≡ 0

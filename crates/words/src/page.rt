@@ -1,7 +1,7 @@
 // A page: a buffer that is written from the front.
 ghost use Rattle.std.specs.Prelude.{◌≡◌, ◌+◌, ◌≤◌, [], ◌∷◌, ◌++◌, map, length};
 ghost use Rattle.words.specs.Shows.{show_field, show_fields, field_said};
-ghost use Rattle.words.specs.Pages.{Begins, Wrote, Put, less, left};
+ghost use Rattle.words.specs.Pages.{Begins, Wrote, Put, page_len, less, left};
 
 use crate::field::Field;
 use crate::refusal::Refusal;
@@ -36,7 +36,7 @@ impl<'a> Page<'a> {
 
     // How many bytes are written.
     pub fn len(&self) -> usize
-        ensures { result ≡ self.now.len }
+        ensures { result ≡ page_len self.now }
     {
         self.len
     }
