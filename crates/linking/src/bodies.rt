@@ -76,7 +76,7 @@ impl Symbols {
         })
     }
 
-    // Links all bodies of a script's lines.
+    // Links all bodies of a script's lines. A loop too: a body needs the lines behind its own, and the first fault ends it.
     pub(crate) fn link_bodies(&self, lines: &[Line<Name>], heap: Global) -> Result<Vec<Body>, Stop>
         ensures { Makes vec_items (link_parts self.now (parts 1 lines.now)) result }
     {

@@ -5,7 +5,8 @@ use crate::stop::Stop;
 use crate::tables::Tables;
 use script::Read;
 
-// A script with its program: every number in that is in range, every target sound.
+// A script with its program: every number in that is in range, every target sound. A ghost field says so, and no Model,
+// whose invariant would not be seen where a program runs.
 #[derive(Drop)]
 pub struct Linked {
     pub(crate) script: Read,

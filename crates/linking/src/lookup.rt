@@ -14,7 +14,8 @@ use lines::{Kind, Line, Operand};
 use script::find;
 use words::Name;
 
-// The number of the channel of that name. Bytes are compared, since of `==` on names no proof closed with `place`.
+// The number of the channel of that name. Bytes are compared, since of `==` on names no proof closed with `place`. Not
+// `find`, which looks among names: with a closure that takes the name of an item its contract is longer than both.
 fn placed(channels: &[Channel], name: Name) -> Option<usize>
     ensures { result ≡ place name (map (λ c. c.name) channels.now) }
 {
