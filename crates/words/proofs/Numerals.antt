@@ -11,7 +11,8 @@ use Rattle.std.specs.Str.{all_ascii_digits, IsUtf8, IsAscii}
 use Rattle.std.specs.Str.Parse.{ParsesSigned}
 use Rattle.words.specs.Words.{read_on, loose, number_of}
 
-own : IsNumeralModel (λ ds. all_ascii_digits ds ≡ true) (read_on 0)
+-- what is read of digits is their number, by std's account of numerals
+pub own : IsNumeralModel (λ ds. all_ascii_digits ds ≡ true) (read_on 0)
 own = numerals_by_fold _ (search rules) read_on (search rules)
 
 digits_ascii : (ds : List ℕ) → all_ascii_digits ds ≡ true → IsAscii ds

@@ -4,7 +4,8 @@ ghost use Rattle.words.specs.Shows.{show_word, field_said};
 
 use crate::name::Name;
 
-// Not a `Word` with another name in it: a word has one kind of number, and here one may also be without a sign.
+// Not a `Word` with another name in it: a word has one kind of number, and here one may also be without a sign. An enum
+// can have no Model, so clauses say `field_said`.
 #[derive(Clone, Copy)]
 pub enum Field {
     Name(Name),

@@ -1,7 +1,8 @@
 // A name, held by value.
 use std::marker::Model;
 
-// The letters of a name, with zeros after them. A contract sees the letters alone.
+// The letters of a name, with zeros after them: no String, since reading allocates nothing. A contract sees the letters
+// alone.
 #[derive(Clone, Copy, PartialEq, Eq)]
 pub struct Name {
     pub(crate) letters: [u8; 8],
