@@ -12,6 +12,7 @@ use Rattle.words.specs.Names.{lowers, is_name}
 use Rattle.words.specs.Words.{Said, name, number, value, handle, span, register, numbered, number_of, word_of, with_rest, read_word, Sound}
 use Rattle.words.specs.Shows.{show_word}
 use Rattle.words.proofs.Spans.{Free, Stops, span_front, free_lowers}
+use Rattle.words.proofs.Numerals.{own}
 use Rattle.text_laws.proofs.Numbers.{either, number_there, number_back, lead_decimal}
 
 pub err_ok : {X : Type 0} {e : Fault} {x : X} → ◌≡◌ {A = Result X Fault} (Err e) (Ok x) → ⊥
