@@ -44,7 +44,7 @@ impl Read {
             return Err(Refusal::Small);
         }
         let mut page = Page::new(out);
-        put_lines(&mut page, self.draft.lines())?;
+        put_lines(&mut page, self.lines())?;
         Ok(page.len())
     }
 }
