@@ -8,8 +8,8 @@ import os, shutil, subprocess, sys, tempfile
 MISUSES = [
     # what, crate, file, old text, new text, the compiler's error
     ('an empty script after it was read', 'relist', 'src/main.rt',
-     'Err(refused) => print_refused(&rt, refused.fault),',
-     'Err(refused) => { let _again = empty.read(&text); print_refused(&rt, refused.fault) }',
+     'Err(refused) => println!(rt; "{}", refused.fault),',
+     'Err(refused) => { let _again = empty.read(&text); println!(rt; "{}", refused.fault) }',
      'borrow-e0382'),
 ]
 top = os.path.join(os.path.dirname(os.path.abspath(__file__)), '..')
