@@ -74,7 +74,8 @@ fn note_all<P: Picker, T: Note>(
     ensures value { IfOk result (λ v. v.items ≡ noted T.rule queries.now (answers (P.meaning picker.old) queries.now)) }
     ensures then { let m = P.meaning picker.old in P.meaning picker.new ≡ (if is_ok result then after_all m queries.now else m) }
     ensures within { IfOk result (λ _. AllWithin queries.now (answers (P.meaning picker.old) queries.now)) }
-    ensures replayed { let os = answers (P.meaning picker.old) queries.now in IfOk result (λ _. Replayed (picks_of queries.now os) queries.now os) }
+    ensures replayed { let os = answers (P.meaning picker.old) queries.now in
+        IfOk result (λ _. Replayed (picks_of queries.now os) queries.now os) }
 {
     let mut notes = Vec::with_capacity(heap, queries.len())?;
     note_each(picker, queries, &mut notes);
