@@ -34,8 +34,9 @@ pub fn enough_cells<E: Element>(bank: &[E]) -> bool
     E::CELLS <= bank.len()
 }
 
-// Whether an element is the zero element: exactly when its code is 0. By codes, here and in `same`: for `==` each kind
-// would have to give an `eq` and prove one more law, that `eq` tells what codes tell.
+// Whether an element is the zero element: exactly when its code is 0. By codes, here and in `same`. Tried: `Copy + PartialEq`,
+// which asks more of whoever makes a kind, to derive `==` (a maker's `Pair` does not) and to prove one more law, that
+// `==` tells what codes tell: without it neither clause of the two closes.
 pub fn is_zero<E: Element>(e: E) -> bool
     ensures codes { result ≡ (E.coded e == 0) }
     ensures elements { Tells result (e ≡ E.nought) }

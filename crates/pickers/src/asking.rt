@@ -65,6 +65,23 @@ fn note_each<P: Picker, T: Note>(picker: &mut P, queries: &[Query], notes: &mut 
     }
 }
 
+// The notes on the picker's answers to the queries. Where there is no memory for them, none is asked.
+fn note_all<P: Picker, T: Note>(
+    heap: Global,
+    picker: &mut P,
+    queries: &[Query],
+) -> Result<Vec<T>, AllocError>
+    ensures value { IfOk result (λ v. v.items ≡ noted T.rule queries.now (answers (P.meaning picker.old) queries.now)) }
+    ensures then { let m = P.meaning picker.old in P.meaning picker.new ≡ (if is_ok result then after_all m queries.now else m) }
+    ensures within { IfOk result (λ _. AllWithin queries.now (answers (P.meaning picker.old) queries.now)) }
+    ensures replayed { let os = answers (P.meaning picker.old) queries.now in
+        IfOk result (λ _. Replayed (picks_of queries.now os) queries.now os) }
+{
+    let mut notes = Vec::with_capacity(heap, queries.len())?;
+    note_each(picker, queries, &mut notes);
+    Ok(notes)
+}
+
 // The picker's answers to the queries, one after the other. Where there is no memory for them, none is asked.
 #[tactic(auto, using(crate::proofs::Along::every_answer))]
 pub fn ask_all<P: Picker>(
@@ -76,9 +93,7 @@ pub fn ask_all<P: Picker>(
     ensures then { let m = P.meaning picker.old in P.meaning picker.new ≡ (if is_ok result then after_all m queries.now else m) }
     ensures within { IfOk result (λ v. AllWithin queries.now v.items) }
 {
-    let mut answers = Vec::with_capacity(heap, queries.len())?;
-    note_each(picker, queries, &mut answers);
-    Ok(answers)
+    note_all::<P, Option<u8>>(heap, picker, queries)
 }
 
 // The picks that the picker's answers to the queries make. Where there is no memory for them, none is asked.
@@ -91,7 +106,5 @@ pub fn record_picks<P: Picker>(
     ensures then { let m = P.meaning picker.old in P.meaning picker.new ≡ (if is_ok result then after_all m queries.now else m) }
     ensures replayed { IfOk result (λ v. Replayed v.items queries.now (answers (P.meaning picker.old) queries.now)) }
 {
-    let mut picks = Vec::with_capacity(heap, queries.len())?;
-    note_each(picker, queries, &mut picks);
-    Ok(picks)
+    note_all::<P, Pick>(heap, picker, queries)
 }

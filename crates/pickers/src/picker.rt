@@ -19,7 +19,8 @@ pub trait Picker {
     // Its answer is none or a case of the set; to an empty set it answers none and keeps its meaning.
     ghost lawful: { (x : Self) → Lawful (meaning x) };
 
-    // The answer and the meaning afterwards are those that the meaning has for the query.
+    // The answer and the meaning afterwards are those that the meaning has for the query. The functions that pass the
+    // call on say so again, and that the answer is of the set: who calls `ask` or `choose` sees only their contracts.
     fn pick(&mut self, query: Query) -> Option<u8>
         ensures value { result ≡ answer (meaning self.old) query }
         ensures then { meaning self.new ≡ after (meaning self.old) query };

@@ -1,17 +1,27 @@
 // The schedule picker: plays a list of picks, each for one routine, from the front.
-ghost use Rattle.std.specs.Prelude.{◌≡◌, ◌<◌, true};
+ghost use Rattle.std.specs.Prelude.{◌≡◌, ◌<◌, true, Some};
 ghost use Rattle.pickers.specs.Meaning.{Meaning};
 ghost use Rattle.pickers.specs.Schedule.{serves as serves_query, scheduled};
 ghost use Rattle.pickers.specs.ScheduleFacts.{scheduled_lawful};
+ghost use Rattle.pickers.specs.Shown.{pick_shown};
 
 use crate::picker::{Picker, Query};
 use crate::ready::has;
+use std::fmt;
 
 // One pick: this routine takes this case. Any numbers may stand here.
 #[derive(Clone, Copy)]
 pub struct Pick {
     pub routine: u32,
     pub case: u32,
+}
+
+impl fmt::Display for Pick {
+    ghost output = { λ p. Some (pick_shown p) };
+
+    fn fmt<W: fmt::Write>(&self, f: &mut fmt::Formatter<W>) -> fmt::Result {
+        write!(f, "PK {} {}", self.routine, self.case)
+    }
 }
 
 impl Pick {

@@ -50,7 +50,7 @@ fn answer(rt: &HostRuntime, picks: &[Pick], queries: &[Query]) -> anyhow::Result
 fn record(rt: &HostRuntime, asked: &[Query]) -> anyhow::Result<()> {
     let picks = record_picks(rt.alloc(), &mut Turning::new(), asked)?;
     for pick in &picks {
-        println!(rt; "PK {} {}", pick.routine, pick.case)?;
+        println!(rt; "{pick}")?;
     }
     Ok(())
 }

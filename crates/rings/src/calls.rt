@@ -7,16 +7,17 @@ ghost use Rattle.rings.specs.Answers.{put_answer, take_answer, look_answer, clea
 use crate::ring::{Ring, RingError};
 use elements::Element;
 
-// Sets each cell to the zero element. A loop: `fill` asks for a clone that cannot fail, which no kind owes, and
-// `for_each` tells nothing of the cells afterwards.
+// Sets each cell to the zero element. `fill` asks for a clone that cannot fail, which no kind owes, and `E::zero` itself
+// as the closure is not covered: its result names the kind.
 fn zero_all<E: Element>(cells: &mut [E])
     ensures { cells.new ≡ replicate (length cells.old) E.nought }
 {
-    for cell in cells.iter_mut() {
-        *cell = E::zero();
-    }
+    let zero = E::zero();
+    cells.fill_with(move || zero);
 }
 
+// The bank is lent anew at each call, so that `self` and `bank` stand side by side, and each call asks `lies_in` first: a
+// value of the two would end with the loan, and what was asked of one bank says nothing of the next.
 impl Ring {
     // Whether it holds no element.
     pub fn is_empty(&self) -> bool

@@ -3,6 +3,7 @@ use std::marker::Model;
 
 // The ring has the `capacity` cells from `base` on. Its oldest element lies `first` cells after `base`, and it holds
 // `count` elements, in cell after cell, the first cell following the last.
+// Numbers, and no Vec or VecDeque: the caller lends the cells at each call, and nothing here may allocate.
 #[derive(Clone, Copy)]
 pub struct Ring {
     pub(crate) base: usize,

@@ -1,17 +1,21 @@
-use Rattle.std.proofs.Common.{◌≡◌, ℕ, ◌+◌, ◌<◌, List, [], ◌∷◌, ◌++◌, length, get_or, drop, set, replicate, ap, ◌∙◌, sym, arith}
-use Rattle.std.proofs.lemmas.List.{drop_more, set_at, length-replicate, append_assoc, replicate_more}
+-- Every cell holds what the closure gives, at each call the zero element.
+use Rattle.std.proofs.Common.{◌≡◌, List, [], ◌∷◌, length, replicate, subst, refl, rules}
+use Rattle.std.specs.List.{FoldsTo}
 use Rattle.rings.proofs.calls.zero_all.Goals as goal
 
--- one cell more is zero
-zero_more : {X : Type 0} (xs : List X) (i : ℕ) (z : X) → i < length xs → set (replicate i z ++ drop i xs) i z ≡ replicate (i + 1) z ++ drop (i + 1) xs
-zero_more xs i z l =
-    ap (λ r. set (replicate i z ++ r) i z) (drop_more xs i z l)
-    ∙ set_at (replicate i z) (get_or xs i z) (drop (i + 1) xs) z i (length-replicate i z)
-    ∙ sym (append_assoc (replicate i z) (z ∷ []) (drop (i + 1) xs))
-    ∙ ap (λ p. p ++ drop (i + 1) xs) (replicate_more i z)
+-- the results of calls that all give one thing and leave the closure as it is
+constant : {F X : Type 0} (R : F → X → F → Type 0) (z : X) (f : F) → ((x : X) (q : F) → R f x q → (x ≡ z) × (q ≡ f))
+    → (xs : List X) (last : F) → FoldsTo R f xs last → xs ≡ replicate (length xs) z
+constant R z f step [] last calls = refl
+constant R z f step (x ∷ xs) last calls =
+    let first = step x calls.0 calls.1 in
+    let rest = constant R z f step xs last (subst (λ q. FoldsTo R q xs last) first.1 calls.2) in
+    cc
 
-pub loop-cell-preserved : goal.loop-cell-preserved
-loop-cell-preserved g c =
-    let e = zero_more c.args.cells.now c.loop-cell.cell-index g.E.Element.nought (omega arith) in
-    let z = c.zero.ensures in
+pub returns : goal.returns
+returns g c =
+    let zero = c.zero-zero.ensures in
+    let len = c.fill_with.ensures.len in
+    let ran = c.fill_with.ensures.ran in
+    let cells = constant _ g.E.Element.nought _ (λ x q call. search rules) c.fill_with.new.self ran.0 ran.1 in
     cc
