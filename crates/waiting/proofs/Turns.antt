@@ -37,9 +37,6 @@ ahead_without : (a b r : ℕ) → (r ≡ a → ⊥) → (line : List ℕ) → ah
 ahead_without a b r ne [] h = h
 ahead_without a b r ne (q ∷ line) h = grind (arith, nat_tests, ahead_without a b r ne line)
 
-ahead_rest : (a b q : ℕ) (line : List ℕ) → eqb q a ≡ false → ahead a b (q ∷ line) ≡ true → (eqb q b ≡ false) × (ahead a b line ≡ true)
-ahead_rest a b q line e h = grind (arith, nat_tests)
-
 -- past entries that are not b's
 front_past : {X : Type 0} (b : ℕ) (xs ys : List (Entry X)) → among b xs ≡ false → (xs ≡ [] → fronts b (first ys) ≡ false) → fronts b (first (xs ++ ys)) ≡ false
 front_past b [] ys n h = h refl

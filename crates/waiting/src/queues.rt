@@ -10,7 +10,8 @@ use crate::line::Waiting;
 use crate::wish::{Entry, Queue, Wish};
 use std::alloc::{AllocError, Global};
 
-// Writes a routine's cases into its row, which has room for them: joining needs no memory.
+// Writes a routine's cases into its row, which has room for them: joining needs no memory. A loop, since by its contract
+// `extend_from_slice` may take memory even where there is room, and no method for slices says that it takes none.
 fn lay<X: Copy>(row: &mut Vec<Option<Wish<X>>>, wishes: &[Option<Wish<X>>])
     requires { length wishes.now ≤ vec_capacity row.old }
     ensures items { row.new.items ≡ wishes.now }
@@ -105,7 +106,8 @@ impl<X: Copy> Waiting<X> {
     }
 
     // The routine joins the end of the line with its cases, and with each stands behind all others.
-    // False, and nothing changes, where there is no such routine, it has over 8 cases or it waits already.
+    // False, and nothing changes, where there is no such routine, it has over 8 cases or it waits already. A bool, like
+    // `insert` of a set: the caller has what it needs to know which of these it was.
     pub fn join(&mut self, routine: u32, wishes: &[Option<Wish<X>>]) -> bool
         ensures answer { result ≡ may_join routine (length wishes.now) self.old.line }
         ensures behind { Joined result routine wishes.now self.old self.new }
