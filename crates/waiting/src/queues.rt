@@ -6,6 +6,7 @@ ghost use Rattle.waiting.specs.Queues.{queue, first as first_of, waits as is_wai
 ghost use Rattle.waiting.specs.Laws.{may_join, Absent, Joined, Parted, Served};
 ghost use Rattle.waiting.specs.Runs.{step, joins, leaves, releases};
 
+use crate::cases::Cases;
 use crate::line::Waiting;
 use crate::wish::{Entry, Queue, Wish};
 use std::alloc::{AllocError, Global};
@@ -68,15 +69,16 @@ impl<X: Copy> Waiting<X> {
         self.line.contains(&routine)
     }
 
-    // What the cases of a routine wait for.
-    fn cases_of(&self, routine: u32) -> &[Option<Wish<X>>]
-        ensures is { result.now ≡ cases routine self.now.table }
-        ensures few { length result.now ≤ 8 }
+    // The cases of a routine.
+    fn cases_of(&self, routine: u32) -> Cases<'_, X>
+        ensures who { result.routine ≡ routine }
+        ensures what { result.wishes.now ≡ cases routine self.now.table }
     {
-        match self.table.get(routine as usize) {
+        let wishes = match self.table.get(routine as usize) {
             Some(row) => row.as_slice(),
             None => &[],
-        }
+        };
+        Cases { routine, wishes }
     }
 
     // The front of that queue.
@@ -85,7 +87,7 @@ impl<X: Copy> Waiting<X> {
     {
         self.line
             .iter()
-            .find_map(|routine| q.first_place(*routine, self.cases_of(*routine)))
+            .find_map(|routine| self.cases_of(*routine).first_in(q))
     }
 
     // How many places that queue has.
@@ -94,7 +96,7 @@ impl<X: Copy> Waiting<X> {
     {
         self.line
             .iter()
-            .map(|routine| q.count_places(*routine, self.cases_of(*routine)))
+            .map(|routine| self.cases_of(*routine).count_in(q))
             .sum()
     }
 
