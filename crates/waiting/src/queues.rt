@@ -139,7 +139,7 @@ impl<X: Copy> Waiting<X> {
     pub fn release_first(&mut self, q: Queue) -> Option<Entry<X>>
         ensures answer { result ≡ first_of (queue q.side q.channel self.old.line self.old.table) }
         ensures served { Served result self.old self.new }
-        ensures steps { self.new ≡ step (releases q.side q.channel) self.old }
+        ensures steps { self.new ≡ step (releases q) self.old }
     {
         let entry = self.first(q)?;
         let _ = self.leave(entry.routine);
