@@ -1,4 +1,5 @@
-// Taking a send and taking a receive.
+// Taking a send and taking a receive. `seen` stands in their contracts: what a rule speaks of is the channel with its bank
+// and the waiting line, three values that are lent apart, and a Model is what one value stands for.
 ghost use Rattle.std.specs.Prelude.{◌≡◌, ◌<◌, true, List, ◌++◌, length};
 ghost use Rattle.waiting.specs.Queues.{first as first_of, released};
 ghost use Rattle.rings.specs.Layouts.{covers, held};
@@ -23,22 +24,12 @@ fn offered_by<E: Element, X: Carries<E>>(sender: Entry<X>) -> E
 }
 
 impl Channel {
-    // The queue of those who wait to receive from it.
-    fn receivers(&self) -> Queue
-        ensures { result ≡ record { side = Receivers; channel = self.now.number } }
+    // The queue of those who wait at it on that side.
+    fn queue(&self, side: Side) -> Queue
+        ensures { result ≡ record { side = side; channel = self.now.number } }
     {
         Queue {
-            side: Side::Receivers,
-            channel: self.number,
-        }
-    }
-
-    // The queue of those who wait to send on it.
-    fn senders(&self) -> Queue
-        ensures { result ≡ record { side = Senders; channel = self.now.number } }
-    {
-        Queue {
-            side: Side::Senders,
+            side,
             channel: self.number,
         }
     }
@@ -62,7 +53,7 @@ impl Channel {
         if self.closed {
             return Err(SendError::Closed);
         }
-        if let Some(receiver) = waiting.release_first(self.receivers()) {
+        if let Some(receiver) = waiting.release_first(self.queue(Side::Receivers)) {
             return Ok(Sent::Handed(receiver));
         }
         self.ring.put(bank, e).map_err(|_| SendError::Full)?;
@@ -83,7 +74,7 @@ impl Channel {
         ensures cells { bank.new ≡ cells_filled X.carried E.nought result self.old.ring bank.old }
         ensures channel { self.new ≡ laid_filled result self.old }
     {
-        let sender = waiting.release_first(self.senders())?;
+        let sender = waiting.release_first(self.queue(Side::Senders))?;
         let _ = self.ring.put(bank, offered_by(sender));
         Some(sender)
     }
@@ -97,7 +88,7 @@ impl Channel {
         ensures line { waiting.new ≡ line_got result waiting.old }
         ensures queues { (bank : List E) → seen self.now bank waiting.new ≡ after_got X.carried E.nought result (seen self.now bank waiting.old) }
     {
-        match waiting.release_first(self.senders()) {
+        match waiting.release_first(self.queue(Side::Senders)) {
             Some(sender) => Ok(Received::Handed(offered_by(sender), sender)),
             None if self.closed => Ok(Received::Drained),
             None => Err(ReceiveError::Empty),
@@ -133,9 +124,9 @@ impl Channel {
         ensures served { Served result waiting.old waiting.new }
     {
         // `or_else` does not say that the line is left alone where its closure is not called.
-        match waiting.release_first(self.receivers()) {
+        match waiting.release_first(self.queue(Side::Receivers)) {
             Some(receiver) => Some(receiver),
-            None => waiting.release_first(self.senders()),
+            None => waiting.release_first(self.queue(Side::Senders)),
         }
     }
 }

@@ -50,54 +50,56 @@ fn print_received(
     Ok(())
 }
 
-fn send(rt: &HostRuntime, desk: &mut Desk, high: u8, low: u8) -> anyhow::Result<()> {
-    let pair = Pair { high, low };
-    let sent = desk.channel.send(&mut desk.waiting, &mut desk.cells, pair);
-    print_sent(rt, pair, sent)
-}
-
-fn receive(rt: &HostRuntime, desk: &mut Desk) -> anyhow::Result<()> {
-    let received = desk.channel.receive(&mut desk.waiting, &mut desk.cells);
-    print_received(rt, received)
-}
-
-fn wait(rt: &HostRuntime, desk: &mut Desk, routine: u32, wish: Wish<Pair>) -> anyhow::Result<()> {
-    let joined = desk.waiting.join(routine, &[Some(wish)]);
-    println!(rt; "routine {routine} waits: {joined}")?;
-    Ok(())
-}
-
-fn close(rt: &HostRuntime, desk: &mut Desk) -> anyhow::Result<()> {
-    let mut freed = Vec::with_capacity(rt.alloc(), 64)?;
-    match desk.channel.close(&mut desk.waiting, &mut freed) {
-        Ok(count) => println!(rt; "close: {count} released")?,
-        Err(CloseError::AlreadyClosed) => println!(rt; "close: closed before")?,
-        Err(CloseError::NoRoom) => println!(rt; "close: no room")?,
+impl Desk {
+    fn send(&mut self, rt: &HostRuntime, high: u8, low: u8) -> anyhow::Result<()> {
+        let pair = Pair { high, low };
+        let sent = self.channel.send(&mut self.waiting, &mut self.cells, pair);
+        print_sent(rt, pair, sent)
     }
-    Ok(())
-}
 
-// Fills the buffer, lets a sender wait, and takes everything out again.
-fn fill_and_drain(rt: &HostRuntime, desk: &mut Desk) -> anyhow::Result<()> {
-    send(rt, desk, 1, 2)?;
-    send(rt, desk, 3, 4)?;
-    send(rt, desk, 5, 6)?;
-    wait(rt, desk, 7, Wish::Send(0, Pair { high: 5, low: 6 }))?;
-    receive(rt, desk)?;
-    receive(rt, desk)?;
-    receive(rt, desk)?;
-    receive(rt, desk)
-}
+    fn receive(&mut self, rt: &HostRuntime) -> anyhow::Result<()> {
+        let received = self.channel.receive(&mut self.waiting, &mut self.cells);
+        print_received(rt, received)
+    }
 
-// Hands an element over, and closes.
-fn hand_and_close(rt: &HostRuntime, desk: &mut Desk) -> anyhow::Result<()> {
-    wait(rt, desk, 9, Wish::Receive(0))?;
-    wait(rt, desk, 10, Wish::Receive(0))?;
-    send(rt, desk, 8, 9)?;
-    close(rt, desk)?;
-    receive(rt, desk)?;
-    send(rt, desk, 1, 1)?;
-    close(rt, desk)
+    fn wait(&mut self, rt: &HostRuntime, routine: u32, wish: Wish<Pair>) -> anyhow::Result<()> {
+        let joined = self.waiting.join(routine, &[Some(wish)]);
+        println!(rt; "routine {routine} waits: {joined}")?;
+        Ok(())
+    }
+
+    fn close(&mut self, rt: &HostRuntime) -> anyhow::Result<()> {
+        let mut freed = Vec::with_capacity(rt.alloc(), 64)?;
+        match self.channel.close(&mut self.waiting, &mut freed) {
+            Ok(count) => println!(rt; "close: {count} released")?,
+            Err(CloseError::AlreadyClosed) => println!(rt; "close: closed before")?,
+            Err(CloseError::NoRoom) => println!(rt; "close: no room")?,
+        }
+        Ok(())
+    }
+
+    // Fills the buffer, lets a sender wait, and takes everything out again.
+    fn fill_and_drain(&mut self, rt: &HostRuntime) -> anyhow::Result<()> {
+        self.send(rt, 1, 2)?;
+        self.send(rt, 3, 4)?;
+        self.send(rt, 5, 6)?;
+        self.wait(rt, 7, Wish::Send(0, Pair { high: 5, low: 6 }))?;
+        self.receive(rt)?;
+        self.receive(rt)?;
+        self.receive(rt)?;
+        self.receive(rt)
+    }
+
+    // Hands an element over, and closes.
+    fn hand_and_close(&mut self, rt: &HostRuntime) -> anyhow::Result<()> {
+        self.wait(rt, 9, Wish::Receive(0))?;
+        self.wait(rt, 10, Wish::Receive(0))?;
+        self.send(rt, 8, 9)?;
+        self.close(rt)?;
+        self.receive(rt)?;
+        self.send(rt, 1, 1)?;
+        self.close(rt)
+    }
 }
 
 fn main(rt: HostRuntime) -> anyhow::Result<()> {
@@ -109,6 +111,6 @@ fn main(rt: HostRuntime) -> anyhow::Result<()> {
         waiting,
         cells,
     };
-    fill_and_drain(&rt, &mut desk)?;
-    hand_and_close(&rt, &mut desk)
+    desk.fill_and_drain(&rt)?;
+    desk.hand_and_close(&rt)
 }

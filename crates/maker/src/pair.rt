@@ -15,9 +15,7 @@ pub struct Pair {
 
 impl fmt::Display for Pair {
     fn fmt<W: fmt::Write>(&self, f: &mut fmt::Formatter<W>) -> fmt::Result {
-        let high = self.high;
-        let low = self.low;
-        write!(f, "({high}, {low})")
+        write!(f, "({}, {})", self.high, self.low)
     }
 }
 

@@ -37,9 +37,6 @@ ahead_without : (a b r : ℕ) → (r ≡ a → ⊥) → (line : List ℕ) → ah
 ahead_without a b r ne [] h = h
 ahead_without a b r ne (q ∷ line) h = grind (arith, nat_tests, ahead_without a b r ne line)
 
-ahead_rest : (a b q : ℕ) (line : List ℕ) → eqb q a ≡ false → ahead a b (q ∷ line) ≡ true → (eqb q b ≡ false) × (ahead a b line ≡ true)
-ahead_rest a b q line e h = grind (arith, nat_tests)
-
 -- past entries that are not b's
 front_past : {X : Type 0} (b : ℕ) (xs ys : List (Entry X)) → among b xs ≡ false → (xs ≡ [] → fronts b (first ys) ≡ false) → fronts b (first (xs ++ ys)) ≡ false
 front_past b [] ys n h = h refl
@@ -91,7 +88,7 @@ module _ {X : Type 0} (s : Side) (c : ℕ) where
   step_holds : (a b : ℕ) (e : Step X) (st : State X) → waits a (step e st).line ≡ true → Holds a b st → Holds a b (step e st)
   step_holds a b (joins r ws) st w h = joined_holds a b r ws st h
   step_holds a b (leaves r) st w h = left_holds a b r st.line st.table w h
-  step_holds a b (releases s' c') st w h = released_holds a b (first (queue s' c' st.line st.table)) st.line st.table w h
+  step_holds a b (releases q) st w h = released_holds a b (first (queue q.side q.channel st.line st.table)) st.line st.table w h
 
   run_fronts : (a b : ℕ) → (a ≡ b → ⊥) → (es : List (Step X)) (st : State X) → Holds a b st → remains a es st ≡ true → fronts b (first (queue s c (run es st).line (run es st).table)) ≡ false
   run_fronts a b ne [] st h k = front_ahead a b ne st.table st.line h.1 h.2

@@ -1,4 +1,5 @@
--- The queues of the channels, read from the waiting line and the table of cases.
+-- The queues of the channels, read from the waiting line and the table of cases. The definitions are of these parts, and of
+-- a side and a channel: the laws speak of a line and a table apart, and of both sides of one channel.
 use Rattle.std.specs.Prelude.{ℕ, Bool, false, cond, not, List, [], ◌∷◌, ◌<◌, Some, None, filter, Option, ◌==◌, slice_index_or, slice_set}
 use Rattle.std.specs.List.{All, IsDistinct, enumerate_from, filter_map, flat_map, list_any}
 use Rattle.waiting.specs.declared.wish.Wish.{Wish}

@@ -2,6 +2,7 @@
 use Rattle.std.specs.Prelude.{◌≡◌, ℕ, Bool, true, false, cond, ◌&&◌, List, [], ◌∷◌, ◌++◌, length, Some, None, Option, ◌==◌, ◌≢◌}
 use Rattle.waiting.specs.declared.wish.Side.{Side}
 use Rattle.waiting.specs.declared.wish.Entry.{Entry}
+use Rattle.waiting.specs.declared.wish.Queue.{Queue}
 use Rattle.waiting.specs.Queues.{Row, queue, first, waits, without, written, released}
 use Rattle.waiting.specs.Lines.{State}
 use Rattle.waiting.specs.Laws.{among, may_join}
@@ -10,13 +11,13 @@ use Rattle.waiting.specs.Laws.{among, may_join}
 pub data Step (X : Type 0) : Type 0 where
   joins : ℕ → Row X → Step X
   leaves : ℕ → Step X
-  releases : Side → ℕ → Step X
+  releases : Queue → Step X
 
 -- what the calls join, leave and release_first make of it
 abbrev pub step : {X : Type 0} → Step X → State X → State X
 step (joins r ws) st = cond (may_join r (length ws) st.line) (record { line = st.line ++ r ∷ []; table = written r ws st.table }) st
 step (leaves r) st = record { line = without r st.line; table = st.table }
-step (releases s c) st = record { line = released (first (queue s c st.line st.table)) st.line; table = st.table }
+step (releases q) st = record { line = released (first (queue q.side q.channel st.line st.table)) st.line; table = st.table }
 
 abbrev pub run : {X : Type 0} → List (Step X) → State X → State X
 run [] st = st

@@ -1,4 +1,4 @@
-// The places that the cases of one routine have in a queue.
+// The cases of one routine, and the places that they have in a queue.
 ghost use Rattle.std.specs.Prelude.{◌≡◌, ◌≤◌, length};
 ghost use Rattle.waiting.specs.Queues.{stands as stands_at, place, places, first as first_of};
 
@@ -29,32 +29,36 @@ impl Queue {
             _ => None,
         }
     }
+}
 
-    // The first of a routine's places in this queue.
-    pub(crate) fn first_place<X: Copy>(
-        self,
-        routine: u32,
-        wishes: &[Option<Wish<X>>],
-    ) -> Option<Entry<X>>
-        requires { length wishes.now ≤ 8 }
-        ensures { result ≡ first_of (places self.side self.channel routine 0 wishes.now) }
+// The cases of one routine: at most 8.
+#[derive(Drop)]
+pub(crate) struct Cases<'a, X> {
+    pub(crate) routine: u32,
+    pub(crate) wishes: &'a [Option<Wish<X>>],
+    pub(crate) ghost few: { length wishes.now ≤ 8 },
+}
+
+impl<'a, X: Copy> Cases<'a, X> {
+    // The first of their places in that queue.
+    pub(crate) fn first_in(&self, q: Queue) -> Option<Entry<X>>
+        ensures { result ≡ first_of (places q.side q.channel self.now.routine 0 self.now.wishes.now) }
     {
-        wishes
+        self.wishes
             .iter()
             .enumerate()
-            .find_map(|(case, wish)| self.place(routine, case as u8, *wish))
+            .find_map(|(case, wish)| q.place(self.routine, case as u8, *wish))
     }
 
-    // How many places a routine has in this queue.
-    pub(crate) fn count_places<X: Copy>(self, routine: u32, wishes: &[Option<Wish<X>>]) -> usize
-        requires { length wishes.now ≤ 8 }
-        ensures is { result ≡ length (places self.side self.channel routine 0 wishes.now) }
+    // How many places they have in that queue.
+    pub(crate) fn count_in(&self, q: Queue) -> usize
+        ensures is { result ≡ length (places q.side q.channel self.now.routine 0 self.now.wishes.now) }
         ensures few { result ≤ 8 }
     {
-        wishes
+        self.wishes
             .iter()
             .enumerate()
-            .filter_map(|(case, wish)| self.place(routine, case as u8, *wish))
+            .filter_map(|(case, wish)| q.place(self.routine, case as u8, *wish))
             .count()
     }
 }

@@ -3,7 +3,8 @@ use crate::wish::Wish;
 use std::marker::Model;
 
 // The routines that wait, the one that has waited longest first, and a table of their cases: a row for each routine,
-// with room for 8, so that who joins needs no memory. No queue is kept: each is read from these two.
+// with room for 8, so that who joins needs no memory. No queue is kept: each is read from these two. A row is a Vec and
+// no ArrayVec of 8 (tried: making one asks that 8 cases of type X fit in memory, which callers of `new` would have to show).
 #[derive(Drop)]
 pub struct Waiting<X> {
     pub(crate) line: Vec<u32>,

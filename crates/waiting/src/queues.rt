@@ -6,11 +6,13 @@ ghost use Rattle.waiting.specs.Queues.{queue, first as first_of, waits as is_wai
 ghost use Rattle.waiting.specs.Laws.{may_join, Absent, Joined, Parted, Served};
 ghost use Rattle.waiting.specs.Runs.{step, joins, leaves, releases};
 
+use crate::cases::Cases;
 use crate::line::Waiting;
 use crate::wish::{Entry, Queue, Wish};
 use std::alloc::{AllocError, Global};
 
-// Writes a routine's cases into its row, which has room for them: joining needs no memory.
+// Writes a routine's cases into its row, which has room for them: joining needs no memory. A loop, since by its contract
+// `extend_from_slice` may take memory even where there is room, and no method for slices says that it takes none.
 fn lay<X: Copy>(row: &mut Vec<Option<Wish<X>>>, wishes: &[Option<Wish<X>>])
     requires { length wishes.now ≤ vec_capacity row.old }
     ensures items { row.new.items ≡ wishes.now }
@@ -67,15 +69,16 @@ impl<X: Copy> Waiting<X> {
         self.line.contains(&routine)
     }
 
-    // What the cases of a routine wait for.
-    fn cases_of(&self, routine: u32) -> &[Option<Wish<X>>]
-        ensures is { result.now ≡ cases routine self.now.table }
-        ensures few { length result.now ≤ 8 }
+    // The cases of a routine.
+    fn cases_of(&self, routine: u32) -> Cases<'_, X>
+        ensures who { result.routine ≡ routine }
+        ensures what { result.wishes.now ≡ cases routine self.now.table }
     {
-        match self.table.get(routine as usize) {
+        let wishes = match self.table.get(routine as usize) {
             Some(row) => row.as_slice(),
             None => &[],
-        }
+        };
+        Cases { routine, wishes }
     }
 
     // The front of that queue.
@@ -84,7 +87,7 @@ impl<X: Copy> Waiting<X> {
     {
         self.line
             .iter()
-            .find_map(|routine| q.first_place(*routine, self.cases_of(*routine)))
+            .find_map(|routine| self.cases_of(*routine).first_in(q))
     }
 
     // How many places that queue has.
@@ -93,7 +96,7 @@ impl<X: Copy> Waiting<X> {
     {
         self.line
             .iter()
-            .map(|routine| q.count_places(*routine, self.cases_of(*routine)))
+            .map(|routine| self.cases_of(*routine).count_in(q))
             .sum()
     }
 
@@ -105,7 +108,8 @@ impl<X: Copy> Waiting<X> {
     }
 
     // The routine joins the end of the line with its cases, and with each stands behind all others.
-    // False, and nothing changes, where there is no such routine, it has over 8 cases or it waits already.
+    // False, and nothing changes, where there is no such routine, it has over 8 cases or it waits already. A bool, like
+    // `insert` of a set: the caller has what it needs to know which of these it was.
     pub fn join(&mut self, routine: u32, wishes: &[Option<Wish<X>>]) -> bool
         ensures answer { result ≡ may_join routine (length wishes.now) self.old.line }
         ensures behind { Joined result routine wishes.now self.old self.new }
@@ -135,7 +139,7 @@ impl<X: Copy> Waiting<X> {
     pub fn release_first(&mut self, q: Queue) -> Option<Entry<X>>
         ensures answer { result ≡ first_of (queue q.side q.channel self.old.line self.old.table) }
         ensures served { Served result self.old self.new }
-        ensures steps { self.new ≡ step (releases q.side q.channel) self.old }
+        ensures steps { self.new ≡ step (releases q) self.old }
     {
         let entry = self.first(q)?;
         let _ = self.leave(entry.routine);
