@@ -1,8 +1,6 @@
 // Taking one line more into a draft, or refusing it.
-ghost use Rattle.std.specs.Prelude.{◌≡◌, false, IfOk};
-ghost use Rattle.lines.specs.Roles.{role};
-ghost use Rattle.script.specs.Rules.{full};
-ghost use Rattle.script.specs.Drafts.{blank, added, Admits};
+ghost use Rattle.std.specs.Prelude.{◌≡◌, IfOk};
+ghost use Rattle.script.specs.Drafts.{blank, Admits};
 
 use crate::draft::Draft;
 use crate::standing::Standing;
@@ -35,17 +33,6 @@ impl Draft {
         self.lines.as_slice()
     }
 
-    // Takes the line in.
-    fn add(&mut self, line: &Line<Name>)
-        requires { full self.old.standing.tally (role line.now) ≡ false }
-        ensures { self.new ≡ added self.old line.now }
-    {
-        // the check loads the type of a line's operands only where it is named (else: "not told which modules hold the type")
-        let _operand: Option<Operand<Name>> = None;
-        self.standing.take(&line.role());
-        self.lines.push_reserved(*line);
-    }
-
     // Takes in line `number`, if nothing speaks against it.
     pub(crate) fn admit(
         &mut self,
@@ -55,13 +42,15 @@ impl Draft {
     ) -> Result<(), Fault>
         ensures { Admits self.old line.now number last self.new result }
     {
-        if let Some(refusal) = self.standing.judge(&line.role(), last) {
-            return Err(Fault {
+        // the check loads the type of a line's operands only where it is named (else: "not told which modules hold the type")
+        let _operand: Option<Operand<Name>> = None;
+        self.standing
+            .admit(&line.role(), last)
+            .map_err(|refusal| Fault {
                 refusal,
                 line: number,
-            });
-        }
-        self.add(line);
+            })?;
+        self.lines.push_reserved(*line);
         Ok(())
     }
 }
