@@ -66,10 +66,7 @@ impl Standing {
     pub(crate) fn admit(&mut self, role: &Role<Name>, last: bool) -> Result<(), Refusal>
         ensures { AdmitsRole self.old role.now last self.new result }
     {
-        if self.tally.misplaced(role) {
-            return Err(Refusal::Misplaced);
-        }
-        if last && self.tally.leaves_due(role) {
+        if self.tally.misplaced(role) || last && self.tally.leaves_due(role) {
             return Err(Refusal::Misplaced);
         }
         if self.tally.full(role) {
