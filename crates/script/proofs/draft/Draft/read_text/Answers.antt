@@ -1,16 +1,10 @@
-use Rattle.std.proofs.Common.{rules, of_calls, ◌+◌, length, eqb, sym, ap, ◌∙◌, arith}
-use Rattle.std.proofs.lemmas.List.{length-append}
+use Rattle.std.proofs.Common.{rules, of_calls, ◌+◌, eqb, sym, ap, ◌∙◌, arith}
 use Rattle.std.proofs.lemmas.List.Sorted.{answers_always}
 use Rattle.std.proofs.lemmas.Result.{err_from_is_err_and}
 use Rattle.script.specs.Drafts.{reading}
 use Rattle.script.proofs.Pieces.{no_piece}
 use Rattle.script.proofs.Readings.{read_all, end_after, piece_refused, piece_taken}
 use Rattle.script.proofs.draft.Draft.read_text.Goals as goal
-
-pub overflow_add-end : goal.overflow_add-end
-overflow_add-end c =
-    let cut = c.in-Some.ensures.steps.0.0 in
-    omega (arith, c.loop-place.invariant.0, ap length cut, length-append c.in-Some.bytes.now c.next.new.self.iter.rest.now)
 
 pub loop-place-preserved : goal.loop-place-preserved
 loop-place-preserved c =
