@@ -1,4 +1,4 @@
-use Rattle.std.proofs.Common.{rules, of_calls, ◌+◌, eqb, sym, ap, ◌∙◌, arith}
+use Rattle.std.proofs.Common.{rules, of_calls, ◌+◌, eqb, sym, ap, ◌∙◌}
 use Rattle.std.proofs.lemmas.List.Sorted.{answers_always}
 use Rattle.std.proofs.lemmas.Result.{err_from_is_err_and}
 use Rattle.script.specs.Drafts.{reading}
