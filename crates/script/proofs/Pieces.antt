@@ -1,6 +1,7 @@
 -- The line in front of a text, and the pieces after it.
-use Rattle.std.proofs.Common.{◌≡◌, ℕ, suc, ◌+◌, ◌<◌, Bool, true, false, eqb, List, [], ◌∷◌, ◌++◌, length, take, drop, min, sym, refl, ap, ◌∙◌, arith}
-use Rattle.std.proofs.lemmas.List.{length-take, take_min, drop_min, length-append, take_at, nil_from_length}
+use Rattle.std.proofs.Common.{◌≡◌, ℕ, suc, ◌+◌, ◌<◌, Bool, true, false, eqb, List, [], ◌∷◌, ◌++◌, length, take, drop, min, sym, refl, ap, ◌∙◌, arith, zero, true≢false}
+use Rattle.std.specs.List.{IsFirstMatchOrLen}
+use Rattle.std.proofs.lemmas.List.{take_min, drop_min, length-append, take_at, drop_at, nil_from_length}
 use Rattle.std.proofs.lemmas.Bool.{cond-true, eq-eqb, ne_eqb, eqb-true}
 use Rattle.words.specs.Words.{span}
 use Rattle.words.proofs.Spans.{Free, span_front}
@@ -23,13 +24,27 @@ first_piece (c ∷ d ∷ ds) h = go (eqb c 10) refl (first_piece (d ∷ ds) (ome
     go true e more = rw e refl
     go false e more = rw e (ap (onto c) more)
 
+-- the first byte 10, however it is found
+first_span : (t : List ℕ) (i : ℕ) → IsFirstMatchOrLen (λ b. eqb b 10) t i → min (suc i) (length t) ≡ min (suc (span 10 t)) (length t)
+first_span [] i f = omega arith
+first_span (c ∷ cs) zero f = go (eqb c 10) refl
+  where
+    go : (b : Bool) → eqb c 10 ≡ b → min 1 (suc (length cs)) ≡ min (suc (span 10 (c ∷ cs))) (suc (length cs))
+    go true e = rw e refl
+    go false e = absurd (true≢false (sym (f.1 (omega arith) 0) ∙ e))
+first_span (c ∷ cs) (suc i) f =
+    let more = first_span cs i ((λ k d low high. f.0 (suc k) d (omega arith) (omega arith)), λ h d. f.1 (omega arith) d) in
+    rw (f.0 0 0 (omega arith) (omega arith)) (omega (arith, more))
+
 -- the same, of what was cut
-pub cut_piece : (t front piece rest : List ℕ) (n : ℕ) → 0 < length t → front ≡ take (span 10 t) t → n ≡ min (length front + 1) (length t) → piece ≡ take n t → rest ≡ drop n t → pieces t ≡ piece ∷ pieces rest
-cut_piece t front piece rest n some f e p r =
-    let same : n ≡ min (suc (span 10 t)) (length t) = omega (arith, ap length f, length-take (span 10 t) t) in
-    first_piece t some
-    ∙ ap (λ l. l ∷ pieces (drop (suc (span 10 t)) t)) (sym (p ∙ ap (λ k. take k t) same ∙ take_min (suc (span 10 t)) t))
-    ∙ ap (λ l. piece ∷ pieces l) (sym (r ∙ ap (λ k. drop k t) same ∙ drop_min (suc (span 10 t)) t))
+pub cut_piece : (t piece rest : List ℕ) (i : ℕ) → t ≡ piece ++ rest → length piece ≡ min (i + 1) (length t) → 0 < length t → IsFirstMatchOrLen (λ b. eqb b 10) t i → pieces t ≡ piece ∷ pieces rest
+cut_piece t piece rest i cut len some f =
+    let same : length piece ≡ min (suc (span 10 t)) (length t) = omega (arith, len, first_span t i f) in
+    let front : piece ≡ take (suc (span 10 t)) t =
+    sym (take_at piece rest (min (suc (span 10 t)) (length t)) same) ∙ ap (take (min (suc (span 10 t)) (length t))) (sym cut) ∙ take_min (suc (span 10 t)) t in
+    let back : rest ≡ drop (suc (span 10 t)) t =
+    sym (drop_at piece rest (min (suc (span 10 t)) (length t)) same) ∙ ap (drop (min (suc (span 10 t)) (length t))) (sym cut) ∙ drop_min (suc (span 10 t)) t in
+    first_piece t some ∙ ap (λ l. l ∷ pieces (drop (suc (span 10 t)) t)) (sym front) ∙ ap (λ l. piece ∷ pieces l) (sym back)
 
 pub no_piece : (t : List ℕ) → length t ≡ 0 → pieces t ≡ []
 unfolding pieces

@@ -1,44 +1,53 @@
 -- One line read into a draft, and what is left of the text.
-use Rattle.std.proofs.Common.{◌≡◌, ℕ, ◌+◌, List, [], ◌∷◌, ◌++◌, Some, None, Ok, Err, Result, sym, refl, ap, ◌∙◌}
-use Rattle.std.proofs.lemmas.List.{append_assoc, append-nil}
+use Rattle.std.proofs.Common.{◌≡◌, ℕ, zero, suc, ◌+◌, ◌<◌, eqb, min, List, [], ◌∷◌, ◌++◌, length, None, Ok, Err, Result, sym, refl, ap, ◌∙◌, arith}
+use Rattle.std.specs.List.{IsFirstMatchOrLen}
+use Rattle.std.proofs.lemmas.Bool.{eq-eqb, ne_eqb}
+use Rattle.std.proofs.lemmas.List.{append_assoc, append-nil, length-append}
 use Rattle.words.specs.declared.refusal.Fault.{Fault}
 use Rattle.lines.specs.declared.line.Line.{Line}
 use Rattle.lines.specs.Roles.{role}
 use Rattle.script.specs.Rules.{standing}
-use Rattle.script.specs.Texts.{pieces, read_piece, admitted, judged, read_on}
-use Rattle.script.specs.declared.text.Piece.{Piece}
-use Rattle.script.specs.declared.text.Pieces.{Pieces}
-use Rattle.script.specs.Pieces.{NextPiece}
+use Rattle.script.specs.Texts.{pieces, none_left, read_piece, admitted, judged, read_on}
 use Rattle.script.specs.Drafts.{Made, Reads, behind, reading}
+use Rattle.script.proofs.Pieces.{none_pieces, cut_piece}
 
 behind_more : (ls : List (Line (List ℕ))) (l : Line (List ℕ)) (n : ℕ) (o : Result (List (Line (List ℕ))) Fault) → behind ls (admitted None n l o) ≡ behind (ls ++ (l ∷ [])) o
 behind_more ls l n (Ok ms) = ap Ok (sym (append_assoc ls (l ∷ []) ms))
 behind_more ls l n (Err e) = refl
+
+-- the end is reached where nothing is left
+ends : (k m n : ℕ) → m + k ≡ n → eqb m n ≡ eqb k 0
+ends zero m n h = eq-eqb m n (omega arith)
+ends (suc k) m n h = ne_eqb m n (λ e. omega arith) ∙ sym (ne_eqb (suc k) 0 (λ e. omega arith))
 
 -- at the end of the text all of it is there
 pub read_all : (d : Made) (n : ℕ) (t : List ℕ) → pieces t ≡ [] → reading d n t ≡ Ok d.lines
 unfolding read_on
 read_all d n t h = ap (λ ps. behind d.lines (read_on n d.standing ps)) h ∙ ap Ok (append-nil d.lines)
 
-module _ (d d' : Made) (s s' : Pieces) (p : Piece) (next : NextPiece s (Some p) s') where
-  at_piece : reading d s.number s.rest.now ≡ behind d.lines (judged p.number d.standing p.last (read_piece p.number p.bytes.now) (λ l. read_on (p.number + 1) (standing d.standing (role l)) (pieces s'.rest.now)))
+-- a piece of the rest of the text t, up to its byte `end`, as line n
+module _ (d d' : Made) (n end i : ℕ) (t rest piece rest' : List ℕ) (cut : rest ≡ piece ++ rest') (len : length piece ≡ min (i + 1) (length rest)) (some : 0 < length rest) (first : IsFirstMatchOrLen (λ b. eqb b 10) rest i) (before : end + length rest ≡ length t) where
+  pub end_after : (end + length piece) + length rest' ≡ length t
+  end_after = omega (arith, before, ap length cut, length-append piece rest')
+
+  last_piece : eqb (end + length piece) (length t) ≡ none_left (pieces rest')
+  last_piece = ends (length rest') (end + length piece) (length t) end_after ∙ sym (none_pieces rest')
+
+  at_piece : reading d n rest ≡ behind d.lines (judged n d.standing (eqb (end + length piece) (length t)) (read_piece n piece) (λ l. read_on (n + 1) (standing d.standing (role l)) (pieces rest')))
   unfolding read_on
   at_piece =
-      ap (λ n. behind d.lines (read_on n d.standing (pieces s.rest.now))) (sym next.2)
-      ∙ ap (λ ps. behind d.lines (read_on p.number d.standing ps)) next.0
-      ∙ ap (λ b. behind d.lines (judged p.number d.standing b (read_piece p.number p.bytes.now) (λ l. read_on (p.number + 1) (standing d.standing (role l)) (pieces s'.rest.now)))) (sym next.1)
+      ap (λ ps. behind d.lines (read_on n d.standing ps)) (cut_piece rest piece rest' i cut len some first)
+      ∙ ap (λ b. behind d.lines (judged n d.standing b (read_piece n piece) (λ l. read_on (n + 1) (standing d.standing (role l)) (pieces rest')))) (sym last_piece)
 
-  pub piece_refused : (e : Fault) → Reads d p.number p.bytes.now p.last d' (Err e) → reading d s.number s.rest.now ≡ Err e
-  piece_refused e h = at_piece ∙ ap (behind d.lines) (h (λ l. read_on (p.number + 1) (standing d.standing (role l)) (pieces s'.rest.now)))
+  pub piece_refused : (e : Fault) → Reads d n piece (eqb (end + length piece) (length t)) d' (Err e) → reading d n rest ≡ Err e
+  piece_refused e h = at_piece ∙ ap (behind d.lines) (h (λ l. read_on (n + 1) (standing d.standing (role l)) (pieces rest')))
 
-  pub piece_taken : Reads d p.number p.bytes.now p.last d' (Ok tt) → reading d s.number s.rest.now ≡ reading d' s'.number s'.rest.now
+  pub piece_taken : Reads d n piece (eqb (end + length piece) (length t)) d' (Ok tt) → reading d n rest ≡ reading d' (n + 1) rest'
   piece_taken h =
-      let n = p.number in
-      let ps = pieces s'.rest.now in
+      let ps = pieces rest' in
       let more = read_on (n + 1) (standing d.standing (role h.0)) ps in
       at_piece
-      ∙ ap (λ o. behind d.lines (judged n d.standing p.last o (λ m. read_on (n + 1) (standing d.standing (role m)) ps))) h.1
+      ∙ ap (λ o. behind d.lines (judged n d.standing (eqb (end + length piece) (length t)) o (λ m. read_on (n + 1) (standing d.standing (role m)) ps))) h.1
       ∙ ap (λ o. behind d.lines (admitted o n h.0 more)) h.2
       ∙ behind_more d.lines h.0 n more
       ∙ ap (λ m. behind m.lines (read_on (n + 1) m.standing ps)) (sym h.3)
-      ∙ ap (λ k. behind d'.lines (read_on k d'.standing ps)) (ap (λ k. k + 1) next.2 ∙ sym next.3)

@@ -1,6 +1,5 @@
 pub mod Rules
 pub mod Drafts
 pub mod Texts
-pub mod Pieces
 pub mod Kept
 pub mod States

@@ -1,5 +1,5 @@
 -- Which line may follow the lines before it.
-use Rattle.std.specs.Prelude.{ℕ, ◌+◌, ◌-◌, Bool, true, false, cond, ◌&&◌, ◌||◌, List, [], ◌++◌, is_some, position, Some, None, Option, ◌==◌, nat_le, nat_lt}
+use Rattle.std.specs.Prelude.{◌≡◌, ℕ, ◌+◌, ◌-◌, Bool, true, false, cond, ◌&&◌, ◌||◌, List, [], ◌++◌, is_some, position, Some, None, Ok, Err, Option, Result, ◌==◌, nat_le, nat_lt}
 use Rattle.std.specs.Str.{bytes_eq}
 use Rattle.std.specs.Option.{option_to_list}
 use Rattle.words.specs.declared.refusal.Refusal.{Refusal}
@@ -106,3 +106,8 @@ abbrev pub judge : Standing → Role (List ℕ) → Bool → Option Refusal
 judge s r last =
     cond (misplaced s.tally r || (last && nat_lt 0 (after s.tally r).due)) (Some Misplaced)
     (cond (full s.tally r) (Some Full) (cond (twice s r) (Some Twice) None))
+
+-- a line is taken in, or refused, and then nothing changed
+abbrev pub AdmitsRole : Standing → Role (List ℕ) → Bool → Standing → Result (Unit {0}) Refusal → Type 0
+AdmitsRole s r last s' (Ok u) = (judge s r last ≡ None) × (s' ≡ standing s r)
+AdmitsRole s r last s' (Err why) = (judge s r last ≡ Some why) × (s' ≡ s)

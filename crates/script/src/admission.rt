@@ -1,12 +1,10 @@
 // Taking one line more into a draft, or refusing it.
-ghost use Rattle.std.specs.Prelude.{◌≡◌, false, IfOk};
-ghost use Rattle.lines.specs.Roles.{role};
-ghost use Rattle.script.specs.Rules.{full};
-ghost use Rattle.script.specs.Drafts.{blank, added, Admits};
+ghost use Rattle.std.specs.Prelude.{◌≡◌, ◌<◌, ◌++◌, ◌∷◌, [], length, vec_capacity, IfOk};
+ghost use Rattle.script.specs.Drafts.{blank, Admits};
 
 use crate::draft::Draft;
 use crate::standing::Standing;
-use lines::{Line, Operand};
+use lines::Line;
 use std::alloc::{AllocError, Global};
 use words::{Fault, Name};
 
@@ -35,17 +33,6 @@ impl Draft {
         self.lines.as_slice()
     }
 
-    // Takes the line in.
-    fn add(&mut self, line: &Line<Name>)
-        requires { full self.old.standing.tally (role line.now) ≡ false }
-        ensures { self.new ≡ added self.old line.now }
-    {
-        // the check loads the type of a line's operands only where it is named (else: "not told which modules hold the type")
-        let _operand: Option<Operand<Name>> = None;
-        self.standing.take(&line.role());
-        self.lines.push_reserved(*line);
-    }
-
     // Takes in line `number`, if nothing speaks against it.
     pub(crate) fn admit(
         &mut self,
@@ -55,13 +42,23 @@ impl Draft {
     ) -> Result<(), Fault>
         ensures { Admits self.old line.now number last self.new result }
     {
-        if let Some(refusal) = self.standing.judge(&line.role(), last) {
-            return Err(Fault {
+        self.standing
+            .admit(&line.role(), last)
+            .map_err(|refusal| Fault {
                 refusal,
                 line: number,
-            });
-        }
-        self.add(line);
+            })?;
+        keep(&mut self.lines, line);
         Ok(())
     }
+}
+
+// Puts a copy behind the others, for which there is room. Over any type: where it is a `Line`, the check does not load what a
+// line holds (tried: by reference, by value, with a copy in a local: "not told which modules hold the type", or not covered).
+fn keep<T: Copy>(list: &mut Vec<T>, item: &T)
+    requires { length list.old.items < vec_capacity list.old }
+    ensures items { list.new.items ≡ list.old.items ++ (item.now ∷ []) }
+    ensures room { vec_capacity list.new ≡ vec_capacity list.old }
+{
+    list.push_reserved(*item);
 }

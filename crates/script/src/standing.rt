@@ -1,6 +1,6 @@
 // What the lines read so far leave: by it the next line is judged.
-ghost use Rattle.std.specs.Prelude.{◌≡◌, false, IfOk};
-ghost use Rattle.script.specs.Rules.{fresh, full, standing, twice as is_twice, judge as judged};
+ghost use Rattle.std.specs.Prelude.{◌≡◌, IfOk};
+ghost use Rattle.script.specs.Rules.{fresh, twice as is_twice, AdmitsRole};
 
 use crate::lookup::find;
 use crate::tally::Tally;
@@ -62,35 +62,25 @@ impl Standing {
         }
     }
 
-    // Why a line of that role is refused, if it is.
-    pub(crate) fn judge(&self, role: &Role<Name>, last: bool) -> Option<Refusal>
-        ensures { result ≡ judged self.now role.now last }
+    // Takes a line of that role in, if nothing speaks against it.
+    pub(crate) fn admit(&mut self, role: &Role<Name>, last: bool) -> Result<(), Refusal>
+        ensures { AdmitsRole self.old role.now last self.new result }
     {
-        if self.tally.misplaced(role) {
-            return Some(Refusal::Misplaced);
-        }
-        if last && self.tally.leaves_due(role) {
-            return Some(Refusal::Misplaced);
+        if self.tally.misplaced(role) || last && self.tally.leaves_due(role) {
+            return Err(Refusal::Misplaced);
         }
         if self.tally.full(role) {
-            return Some(Refusal::Full);
+            return Err(Refusal::Full);
         }
         if self.twice(role) {
-            return Some(Refusal::Twice);
+            return Err(Refusal::Twice);
         }
-        None
-    }
-
-    // Takes a line of that role in.
-    pub(crate) fn take(&mut self, role: &Role<Name>)
-        requires { full self.old.tally role.now ≡ false }
-        ensures { self.new ≡ standing self.old role.now }
-    {
         match role {
             Role::Declares(_, name, _) => self.channels.push_reserved(*name),
             Role::Opens(name) => self.bodies.push_reserved(*name),
             _ => {}
         }
         self.tally = self.tally.after(role);
+        Ok(())
     }
 }

@@ -7,14 +7,16 @@ use words::Name;
 
 #[derive(Clone, Copy, Default)]
 pub struct Tally {
-    // channels and bodies declared, and lines of bodies: not left to the lists of them, since the rules are of a tally alone
+    // channels and bodies declared, and lines of bodies. Not left to the lists of names: the rules are defined over a tally alone,
+    // and with the lists' lengths beside it `misplaced` would take one number more and `full` two
     pub channels: usize,
     pub bodies: usize,
     pub lines: usize,
     // the capacities of each kind of channel together
     pub values: u32,
     pub handles: u32,
-    // case lines that the last select still asks for, and whether its default came
+    // case lines that the last select still asks for, and whether its default came. Not an `Option` of both: `Some` with none due
+    // would say what `None` says, so each step that counts down would test for it; now `due` alone says it
     pub due: u32,
     pub defaulted: bool,
 }

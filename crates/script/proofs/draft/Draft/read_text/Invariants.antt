@@ -1,7 +1,8 @@
-use Rattle.std.proofs.Common.{◌≡◌}
+use Rattle.std.proofs.Common.{◌≡◌, ◌+◌, length}
 use Rattle.script.specs.Drafts.{reading}
 use Rattle.script.proofs.draft.Draft.read_text.Given as goal
 
--- what is left gives what the whole would
-abbrev pub invariant-loop-piece : goal.invariant-loop-piece
-invariant-loop-piece l = reading l.self l.piece-iterator.number l.piece-iterator.rest.now ≡ reading l.initial.self 1 l.text
+-- the text is read up to its byte `end`, and what is left gives what the whole would
+abbrev pub invariant-loop-place : goal.invariant-loop-place
+invariant-loop-place l =
+    (l.end + length l.place-iterator.iter.rest.now ≡ length l.text) × (reading l.self (l.place-iterator.count + 1) l.place-iterator.iter.rest.now ≡ reading l.initial.self 1 l.text)
