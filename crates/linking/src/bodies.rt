@@ -23,7 +23,8 @@ fn opens(line: &Line<Name>) -> bool
     matches!(line.role(), Role::Opens(_))
 }
 
-// How many lines stand before the next that opens a body.
+// How many lines stand before the next that opens a body. Apart from `own`: tried in one with it, by `take_while`,
+// `position` and `split`, and no proof closed of where the slice ends.
 fn own_count(lines: &[Line<Name>]) -> usize
     ensures { result ≡ prefix_len (λ l. not (is_opens (role_of l))) lines.now }
 {
