@@ -69,8 +69,8 @@ pub bodies_distinct : (ls : List (Line (List ℕ))) → Kept ls → Distinct (bo
 bodies_distinct ls k = subst Distinct (bodies_listed ls) (admitted_lawful ls k.admitted).bodies_differ
 
 -- ---- as many names as what they name
-pub channels_counted : (ls : List (Line (List ℕ))) → length (channels ls) ≡ length (channel_names ls)
-channels_counted ls = length-map (named_channels ls) (λ c. c.declared) ∙ sym (length-map (named_channels ls) (λ c. c.name))
+pub as_many_named : (ls : List (Line (List ℕ))) → length (channels ls) ≡ length (channel_names ls)
+as_many_named ls = length-map (named_channels ls) (λ c. c.declared) ∙ sym (length-map (named_channels ls) (λ c. c.name))
 
 -- ---- a number that can be used goes by its name to that number
 used_below : (w : Option Kind) (ds : List Declared) (c : ℕ) → Uses ds w c → c < length ds
@@ -83,7 +83,7 @@ used_below w ds c u = by (slice_get ds c) refl u
 module _ (ls : List (Line (List ℕ))) (kept : Kept ls) where
   pub channel_found : (w : Option Kind) (c : ℕ) → Uses (channels ls) w c → channel (known ls) w (name_at (channel_names ls) c) ≡ Some c
   channel_found w c u =
-      let below : c < length (channel_names ls) = omega (arith, used_below w (channels ls) c u, channels_counted ls) in
+      let below : c < length (channel_names ls) = omega (arith, used_below w (channels ls) c u, as_many_named ls) in
       ap (of_kind w (channels ls)) (place_at (channel_names ls) c (channels_distinct ls kept) below) ∙ cond-true (suited w (slice_get (channels ls) c)) _ _ u
 
   pub body_found : (b : ℕ) → b < length (parts 1 ls) → place (name_at (body_names ls) b) (body_names ls) ≡ Some b

@@ -19,9 +19,17 @@ abbrev pub behind : {A : Type 0} → List A → Result (List A) Fault → Result
 behind done (Ok more) = Ok (done ++ more)
 behind done (Err e) = Err e
 
-pub behind_more : {A : Type 0} (done : List A) (a : A) (r : Result (List A) Fault) → behind done (both (Ok a) r) ≡ behind (done ++ (a ∷ [])) r
+behind_more : {A : Type 0} (done : List A) (a : A) (r : Result (List A) Fault) → behind done (both (Ok a) r) ≡ behind (done ++ (a ∷ [])) r
 behind_more done a (Ok more) = ap Ok (sym (append_assoc done (a ∷ []) more))
 behind_more done a (Err e) = refl
+
+-- the next part was made, and stands behind what was; or it has a fault, and that is the whole's
+module _ {A : Type 0} (done : List A) (whole rest more : Result (List A) Fault) (part : Result A Fault) (so_far : whole ≡ behind done rest) (next : rest ≡ both part more) where
+  pub part_made : (a : A) → part ≡ Ok a → (all : List A) → all ≡ done ++ (a ∷ []) → whole ≡ behind all more
+  part_made a made all e = so_far ∙ ap (behind done) (next ∙ ap (λ r. both r more) made) ∙ behind_more done a more ∙ ap (λ xs. behind xs more) (sym e)
+
+  pub part_faulty : (e : Fault) → part ≡ Err e → whole ≡ Err e
+  part_faulty e faulty = so_far ∙ ap (behind done) (next ∙ ap (λ r. both r more) faulty)
 
 -- a fault of a part is one of the whole
 pub stops_too : {A B : Type 0} (part : Result A Fault) (whole : Result B Fault) (s : Stop) → ((e : Fault) → part ≡ Err e → whole ≡ Err e) → Stopped part s → Stopped whole s

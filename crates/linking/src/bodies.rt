@@ -23,7 +23,8 @@ fn opens(line: &Line<Name>) -> bool
     matches!(line.role(), Role::Opens(_))
 }
 
-// How many lines stand before the next that opens a body.
+// How many lines stand before the next that opens a body. Apart from `own`: tried in one with it, by `take_while`,
+// `position` and `split`, and no proof closed of where the slice ends.
 fn own_count(lines: &[Line<Name>]) -> usize
     ensures { result ≡ prefix_len (λ l. not (is_opens (role_of l))) lines.now }
 {
@@ -60,8 +61,8 @@ impl Symbols {
         Ok(operation)
     }
 
-    // Links the body of those lines, which text line `number` opens. A loop, since by `try_collect` no proof closed of
-    // which fault comes first.
+    // Links the body of those lines, which text line `number` opens. A loop: tried by `try_collect`, and no proof closed
+    // of which fault comes first.
     fn link_body(&self, number: usize, lines: &[Line<Name>], heap: Global) -> Result<Body, Stop>
         requires { number + length lines.now < 2 ^ 64 }
         ensures { Makes (λ b. b) (link_part self.now (record { line = number; lines = lines.now })) result }
@@ -76,7 +77,7 @@ impl Symbols {
         })
     }
 
-    // Links all bodies of a script's lines. A loop too: a body needs the lines behind its own, and the first fault ends it.
+    // Links all bodies of a script's lines. A loop, as `link_body`: tried by `try_collect` too, with the same end.
     pub(crate) fn link_bodies(&self, lines: &[Line<Name>], heap: Global) -> Result<Vec<Body>, Stop>
         ensures { Makes vec_items (link_parts self.now (parts 1 lines.now)) result }
     {

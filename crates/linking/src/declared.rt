@@ -1,6 +1,7 @@
 // What a script declares: its channels and its bodies.
 use crate::operation::Operation;
 use lines::Kind;
+use script::Named;
 use std::marker::Model;
 use words::Name;
 
@@ -16,6 +17,14 @@ pub struct Declared {
 pub struct Channel {
     pub(crate) name: Name,
     pub(crate) declared: Declared,
+}
+
+impl Named for Channel {
+    ghost named = { λ c. c.name };
+
+    fn name(&self) -> Name {
+        self.name
+    }
 }
 
 // A linked body: the text line that opens it, and its operations.

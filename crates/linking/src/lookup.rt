@@ -14,18 +14,6 @@ use lines::{Kind, Line, Operand};
 use script::find;
 use words::Name;
 
-// The number of the channel of that name. Bytes are compared, since of `==` on names no proof closed with `place`. Not
-// `find`, which looks among names: with a closure that takes the name of an item its contract is longer than both.
-fn placed(channels: &[Channel], name: Name) -> Option<usize>
-    ensures { result ≡ place name (map (λ c. c.name) channels.now) }
-{
-    let bytes = name.as_bytes();
-    channels
-        .iter()
-        .map(|c| c.name)
-        .position(|other| other.as_bytes() == bytes)
-}
-
 // Whether that kind is wanted: any is, where none is named.
 fn suits(wanted: Option<Kind>, kind: Kind) -> bool
     ensures { result ≡ is_suited wanted kind }
@@ -47,7 +35,7 @@ impl Symbols {
     fn channel(&self, wanted: Option<Kind>, name: Name) -> Option<usize>
         ensures { result ≡ channel_of self.now wanted name }
     {
-        placed(&self.channels, name).filter(|number| suited(&self.channels, wanted, *number))
+        find(&self.channels, &name).filter(|number| suited(&self.channels, wanted, *number))
     }
 
     // A channel operand by its number.

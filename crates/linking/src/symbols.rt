@@ -53,7 +53,8 @@ fn opened(line: &Line<Name>) -> Option<Name>
     }
 }
 
-// The channels that the lines declare.
+// The channels that the lines declare. Apart from `bodies` and `of`: tried with both chains in `of`, and no proof closed;
+// tried as one generic function over `f`, and what it says of the closure is longer than both.
 fn channels(lines: &[Line<Name>], heap: Global) -> Result<Vec<Channel>, AllocError>
     ensures { IfOk result (λ found. found.items ≡ named_channels lines.now) }
 {

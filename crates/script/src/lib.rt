@@ -11,5 +11,5 @@ mod state;
 mod tally;
 mod text;
 
-pub use lookup::find;
+pub use lookup::{Named, find};
 pub use state::{Empty, Read, Unread};
