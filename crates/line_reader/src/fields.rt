@@ -18,7 +18,7 @@ pub(crate) struct Fields<'a> {
 impl<'a> Fields<'a> {
     // A space and a word.
     #[tactic(auto, using(std::proofs::lemmas::List::take_rest), unfolding(lines::specs::Lines::read_field))]
-    pub(crate) fn word(&mut self) -> Result<Word<'a>, Fault>
+    fn word(&mut self) -> Result<Word<'a>, Fault>
         ensures field { Reads read_field self.old (said_word result) self.new }
         ensures names { IfOk result (λ w. Spelt (said w)) }
     {

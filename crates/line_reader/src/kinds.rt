@@ -1,7 +1,4 @@
 // The kinds of field that a line has, and how each is read.
-ghost use Rattle.std.specs.Prelude.{◌≡◌, if◌then◌else◌, Ok, Err};
-ghost use Rattle.words.specs.Names.{is_name};
-ghost use Rattle.words.specs.Refusals.{broken};
 ghost use Rattle.lines.specs.Lines.{Reader, only, both, as_value, as_handle, as_integer, as_natural, as_name, as_operand};
 ghost use Rattle.line_reader.specs.Reads.{Reads};
 
