@@ -81,11 +81,8 @@ impl<'a> Page<'a> {
     {
         let Page { out, len } = self;
         let room = out.len().checked_sub(*len)?;
-        let mut left = room.checked_sub(mark.len())?;
-        for field in fields {
-            left = after_field(left, field)?;
-        }
-        Some(left)
+        let left = room.checked_sub(mark.len())?;
+        fields.iter().try_fold(left, after_field)
     }
 
     // Writes a mark and its fields next; writes nothing where they do not fit.
