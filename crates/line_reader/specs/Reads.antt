@@ -1,9 +1,12 @@
 -- What a reader of the code does, by the reader of the specification.
-use Rattle.std.specs.Prelude.{◌≡◌, ℕ, true, List, Ok, Err, Result, MatchResult, IsOkAnd}
+use Rattle.std.specs.Prelude.{◌≡◌, ℕ, true, List, Ok, Err, Option, Result, MatchResult, IsOkAnd}
 use Rattle.words.specs.declared.refusal.Fault.{Fault}
+use Rattle.words.specs.declared.reading.Word.{Word}
 use Rattle.words.specs.Names.{is_name}
-use Rattle.words.specs.Words.{Said, name, number, value, handle}
-use Rattle.lines.specs.Lines.{Reader, then, ended}
+use Rattle.words.specs.Refusals.{broken}
+use Rattle.std.specs.Option.{ok_or}
+use Rattle.words.specs.Words.{Said, name, number, value, handle, said, said_word}
+use Rattle.lines.specs.Lines.{Reader, read_field, then, ended}
 use Rattle.line_reader.specs.declared.fields.Fields.{Fields}
 
 -- an answer, and what is left after it; what a refusal leaves is open, since nothing more is read
@@ -32,3 +35,9 @@ Spelt (name x) = is_name x ≡ true
 Spelt (number z) = Unit {0}
 Spelt (value k) = Unit {0}
 Spelt (handle k) = Unit {0}
+
+-- a word is read, and the answer is what was picked from it, if anything was
+pub record ReadsPicked {X : Type 0} (picked : Word → Option X → Type 0) (before : Fields) (answer : Result X Fault) (after : Fields) : Type 0 where
+  pub word : Result Word Fault
+  pub read : Reads read_field before (said_word word) after
+  pub answered : MatchResult word (λ w. Spelt (said w) × ((o : Option X) × picked w o × (answer ≡ ok_or o (broken before.line)))) (λ e. answer ≡ Err e)

@@ -2,7 +2,7 @@
 ghost use Rattle.std.specs.Prelude.{◌≡◌, IfOk};
 ghost use Rattle.words.specs.Words.{said, said_word};
 ghost use Rattle.lines.specs.Lines.{read_field};
-ghost use Rattle.line_reader.specs.Reads.{Reads, Makes, Spelt, to_the_end};
+ghost use Rattle.line_reader.specs.Reads.{Reads, ReadsPicked, Makes, Spelt, to_the_end};
 
 use crate::kinds::Kind;
 use lines::Line;
@@ -18,7 +18,7 @@ pub(crate) struct Fields<'a> {
 impl<'a> Fields<'a> {
     // A space and a word.
     #[tactic(auto, using(std::proofs::lemmas::List::take_rest), unfolding(lines::specs::Lines::read_field))]
-    pub(crate) fn word(&mut self) -> Result<Word<'a>, Fault>
+    fn word(&mut self) -> Result<Word<'a>, Fault>
         ensures field { Reads read_field self.old (said_word result) self.new }
         ensures names { IfOk result (λ w. Spelt (said w)) }
     {
@@ -28,6 +28,15 @@ impl<'a> Fields<'a> {
         let (word, rest) = next_word(rest, self.line)?;
         self.rest = rest;
         Ok(word)
+    }
+
+    // A space and a word of one kind, from which `pick` takes what is read.
+    pub(crate) fn only<T, F: FnOnce(Word<'a>) -> Option<T>>(&mut self, pick: F) -> Result<T, Fault>
+        requires { F.IsAlwaysCallable pick }
+        ensures { ReadsPicked (F.post pick) self.old result self.new }
+    {
+        let word = self.word()?;
+        pick(word).ok_or(Fault::broken(self.line))
     }
 
     // All fields of the line, which ends after them.

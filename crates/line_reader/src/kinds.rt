@@ -1,7 +1,4 @@
 // The kinds of field that a line has, and how each is read.
-ghost use Rattle.std.specs.Prelude.{◌≡◌, if◌then◌else◌, Ok, Err};
-ghost use Rattle.words.specs.Names.{is_name};
-ghost use Rattle.words.specs.Refusals.{broken};
 ghost use Rattle.lines.specs.Lines.{Reader, only, both, as_value, as_handle, as_integer, as_natural, as_name, as_operand};
 ghost use Rattle.line_reader.specs.Reads.{Reads};
 
@@ -28,10 +25,10 @@ impl Kind for Value {
     ghost reader = { only as_value };
 
     fn read(fields: &mut Fields<'_>) -> Result<u8, Fault> {
-        match fields.word()? {
-            Word::Value(v) => Ok(v),
-            _ => Err(Fault::broken(fields.line)),
-        }
+        fields.only(|word| match word {
+            Word::Value(v) => Some(v),
+            _ => None,
+        })
     }
 }
 
@@ -44,10 +41,10 @@ impl Kind for Handle {
     ghost reader = { only as_handle };
 
     fn read(fields: &mut Fields<'_>) -> Result<u8, Fault> {
-        match fields.word()? {
-            Word::Handle(h) => Ok(h),
-            _ => Err(Fault::broken(fields.line)),
-        }
+        fields.only(|word| match word {
+            Word::Handle(h) => Some(h),
+            _ => None,
+        })
     }
 }
 
@@ -58,10 +55,10 @@ impl Kind for i32 {
     ghost reader = { only as_integer };
 
     fn read(fields: &mut Fields<'_>) -> Result<i32, Fault> {
-        match fields.word()? {
-            Word::Number(n) => Ok(n),
-            _ => Err(Fault::broken(fields.line)),
-        }
+        fields.only(|word| match word {
+            Word::Number(n) => Some(n),
+            _ => None,
+        })
     }
 }
 
@@ -72,10 +69,10 @@ impl Kind for u32 {
     ghost reader = { only as_natural };
 
     fn read(fields: &mut Fields<'_>) -> Result<u32, Fault> {
-        match fields.word()? {
-            Word::Number(n) if n >= 0 => Ok(n as u32),
-            _ => Err(Fault::broken(fields.line)),
-        }
+        fields.only(|word| match word {
+            Word::Number(n) => u32::try_from(n).ok(),
+            _ => None,
+        })
     }
 }
 
@@ -86,10 +83,10 @@ impl Kind for Name {
     ghost reader = { only as_name };
 
     fn read(fields: &mut Fields<'_>) -> Result<Name, Fault> {
-        match fields.word()? {
-            Word::Name(bytes) => Name::new(bytes).ok_or(Fault::broken(fields.line)),
-            _ => Err(Fault::broken(fields.line)),
-        }
+        fields.only(|word| match word {
+            Word::Name(bytes) => Name::new(bytes),
+            _ => None,
+        })
     }
 }
 
@@ -102,14 +99,11 @@ impl Kind for Channel {
     ghost reader = { only as_operand };
 
     fn read(fields: &mut Fields<'_>) -> Result<Channel, Fault> {
-        match fields.word()? {
-            Word::Name(bytes) => {
-                let name = Name::new(bytes).ok_or(Fault::broken(fields.line))?;
-                Ok(Operand::Named(name))
-            }
-            Word::Handle(h) => Ok(Operand::Held(h)),
-            _ => Err(Fault::broken(fields.line)),
-        }
+        fields.only(|word| match word {
+            Word::Name(bytes) => Name::new(bytes).map(Operand::Named),
+            Word::Handle(h) => Some(Operand::Held(h)),
+            _ => None,
+        })
     }
 }
 

@@ -1,13 +1,9 @@
--- A line with a known mark.
+-- No mark has a zero byte.
 use Rattle.std.proofs.Common.{◌≡◌, ℕ, ◌-◌, ◌<◌, ◌&&◌, eqb, List, [], ◌∷◌, length, get_or, take, drop, Err, sym, refl, ◌∙◌, arith}
 use Rattle.std.specs.List.{AllByRecursion}
 use Rattle.std.proofs.lemmas.Bool.{and_right, cond-false, ne_eqb}
 use Rattle.words.specs.Refusals.{broken}
-use Rattle.std.proofs.lemmas.List.{take_rest}
 use Rattle.lines.specs.Lines.{Format, formats, chosen, read_line}
-
-pub at_mark : (n : ℕ) (s : List ℕ) (a b : ℕ) → get_or s 0 0 ≡ a → get_or s 1 0 ≡ b → chosen formats n a b (take (length s - 2) (drop 2 s)) ≡ read_line n s
-at_mark n s a b p q = rw (sym p, sym q, take_rest s 2)
 
 -- no mark has a 0, so a line with fewer than two bytes has none
 pub no_mark : (fs : List Format) → AllByRecursion (λ f. 0 < f.second) fs → (n a : ℕ) (rest : List ℕ) → chosen fs n a 0 rest ≡ Err (broken n)

@@ -7,7 +7,8 @@ pub enum Operand<N> {
     Held(u8),
 }
 
-// A line of a script. Registers go by their number.
+// A line of a script. Registers go by their number. One variant for each mark, as the table of formats has one row for each:
+// so a send, a receive and the cases of both are variants of their own, and a variant has the fields of its mark only.
 #[derive(Clone, Copy)]
 pub enum Line<N> {
     Set(u8, i32),

@@ -11,7 +11,8 @@ ghost use Rattle.reports.specs.Prints.{Printed, PrintsShort};
 use crate::report::{Deed, Event, Move, Pass, Picked, Report};
 use words::{Field, Page, Refusal};
 
-// The words of numbers, and that these fit their types.
+// The words of numbers, and that these fit their types. Not `From` for `Field`: a clause of `From` could say the word only,
+// and it is from these calls that each text knows its bounds.
 fn small(n: u8) -> Field
     ensures said { field_said result ≡ natural n }
     ensures fits { n < 2 ^ 8 }

@@ -6,7 +6,7 @@ ghost use Rattle.reports.specs.Causes.{number_of};
 #[derive(Clone, Copy, PartialEq, Eq, Debug)]
 pub enum Panic {
     // a send on a closed channel
-    ClosedSend,
+    ClosedSend = 1,
     // a close of a closed channel, and of nil
     ClosedTwice,
     NilClose,
@@ -15,16 +15,11 @@ pub enum Panic {
 }
 
 impl Panic {
-    // The number that is printed for it. Not discriminants: with one number given twice they would not even compile.
+    // The number that is printed for it.
     pub fn number(self) -> u8
         ensures { result ≡ number_of self }
     {
-        match self {
-            Panic::ClosedSend => 1,
-            Panic::ClosedTwice => 2,
-            Panic::NilClose => 3,
-            Panic::Crowded => 4,
-        }
+        self as u8
     }
 }
 

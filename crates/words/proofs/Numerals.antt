@@ -1,5 +1,5 @@
 -- A number, as std's `parse` reads it.
-use Rattle.std.proofs.Common.{◌≡◌, ◌≢◌, ℕ, ◌-◌, ◌+◌, ◌*◌, ◌^◌, ◌<◌, ◌≤◌, Bool, true, false, eqb, List, [], ◌∷◌, length, get_or, ℤ, pos, neg_ℤ, Some, None, Ok, Err, Result, w32, sym, refl, subst, arith, rules}
+use Rattle.std.proofs.Common.{◌≡◌, ◌≢◌, ℕ, ◌-◌, ◌+◌, ◌*◌, ◌^◌, ◌<◌, ◌≤◌, Bool, true, false, eqb, List, [], ◌∷◌, length, get_or, ℤ, pos, neg_ℤ, Some, None, Ok, Err, Result, MatchResult, w32, sym, refl, subst, arith, rules}
 use Rattle.std.proofs.lemmas.Bool.{eqb-true, eqb-false, and_parts}
 use Rattle.std.proofs.lemmas.Bool.Decides.{nat_tests}
 use Rattle.std.proofs.lemmas.Str.{IsUtf8-from_ascii}
@@ -69,3 +69,12 @@ not_utf8 t s n = at t (eqb (get_or t 0 0) 45) refl s n
     at (x ∷ ds) true e s n =
         let P : ℕ → Type 0 = λ y. loose (y ∷ ds) ≡ false → (IsUtf8 (y ∷ ds) → ⊥) → None ≡ number_of (y ∷ ds) in
         subst P (sym (eqb-true x 45 e)) (λ s n. minus_none ds s (λ d l f. n (IsUtf8-from_ascii (45 ∷ ds) (IsAscii-cons 45 ds (omega arith) (digits_ascii ds d))))) s n
+
+-- ---- of what std reads as text, only the value is kept
+pub read_text : {T E : Type 0} (P : T → Type 0) (Q : E → Type 0) (x : T) (r : Result T E) → MatchResult r P Q → result_ok r ≡ Some x → P x
+read_text P Q x (Ok y) h e = subst P (cc) h
+read_text P Q x (Err y) h e = absurd (let z : ◌≡◌ {A = ℕ} 0 1 = cc in omega arith)
+
+pub read_none : {T E : Type 0} (P : T → Type 0) (N : Type 0) (R : E → Type 0) (r : Result T E) → MatchResult r P (λ e. N × R e) → result_ok r ≡ None → N
+read_none P N R (Ok y) h e = absurd (let z : ◌≡◌ {A = ℕ} 0 1 = cc in omega arith)
+read_none P N R (Err y) h e = h.0

@@ -1,10 +1,10 @@
 -- One write after another.
-use Rattle.std.proofs.Common.{◌≡◌, ◌+◌, ◌≤◌, true, Ok, Err, Result, MutBor, subst, List, [], ◌++◌, ℕ, length, take, drop, sym, refl, ap, ◌∙◌, add-zero, arith}
-use Rattle.std.proofs.lemmas.List.{append_assoc, append-nil, length-append, take-append-drop, drop-drop}
+use Rattle.std.proofs.Common.{◌≡◌, ◌+◌, ◌≤◌, true, Ok, Err, Result, subst, List, [], ◌++◌, ℕ, length, take, drop, sym, refl, ap, ◌∙◌, add-zero, arith}
+use Rattle.std.proofs.lemmas.List.{append_assoc, append-nil, length-append, drop-drop}
 use Rattle.std.proofs.lemmas.Bool.{le-leb, leb-true, cond-true}
 use Rattle.words.specs.declared.refusal.Refusal.{Refusal}
 use Rattle.words.specs.declared.page.Page.{Page}
-use Rattle.words.specs.Pages.{Begins, Wrote, Put, fits, Prints}
+use Rattle.words.specs.Pages.{Wrote, Put, fits, Prints}
 
 pub wrote_none : (p : Page) → Wrote p [] p
 wrote_none p = record {

@@ -1,5 +1,5 @@
 -- What is listed of a word.
-use Rattle.std.specs.Prelude.{ℕ, List, ◌∷◌, pos, decimal}
+use Rattle.std.specs.Prelude.{ℕ, List, ◌∷◌, ◌++◌, map, pos, decimal}
 use Rattle.std.specs.Fmt.{signed_decimal}
 use Rattle.std.specs.List.{flat_map}
 use Rattle.words.specs.declared.field.Field.{Field}
@@ -26,3 +26,7 @@ field_said (Integer z) = number z
 field_said (Natural n) = number (pos n)
 field_said (Value n) = value n
 field_said (Handle n) = handle n
+
+-- a mark and the fields after it
+abbrev pub show_marked : List ℕ → List Field → List ℕ
+show_marked mark fields = mark ++ show_fields (map field_said fields)

@@ -1,6 +1,6 @@
 // A page: a buffer that is written from the front.
-ghost use Rattle.std.specs.Prelude.{◌≡◌, ◌+◌, ◌≤◌, [], ◌∷◌, ◌++◌, map, length};
-ghost use Rattle.words.specs.Shows.{show_field, show_fields, field_said};
+ghost use Rattle.std.specs.Prelude.{◌≡◌, ◌+◌, ◌≤◌, [], ◌∷◌, length};
+ghost use Rattle.words.specs.Shows.{show_field, show_marked, field_said};
 ghost use Rattle.words.specs.Pages.{Begins, Wrote, Put, page_len, less, left};
 
 use crate::field::Field;
@@ -66,8 +66,8 @@ impl<'a> Page<'a> {
 
     // The same for a mark and fields.
     fn push_fields(&mut self, mark: &[u8], fields: &[Field])
-        requires { self.old.len + length (mark.now ++ show_fields (map field_said fields.now)) ≤ length self.old.out.now }
-        ensures { Wrote self.old (mark.now ++ show_fields (map field_said fields.now)) self.new }
+        requires { self.old.len + length (show_marked mark.now fields.now) ≤ length self.old.out.now }
+        ensures { Wrote self.old (show_marked mark.now fields.now) self.new }
     {
         self.push(mark);
         for field in fields {
@@ -77,20 +77,17 @@ impl<'a> Page<'a> {
 
     // How much room is left after a mark and fields, if they fit.
     fn room_after(&self, mark: &[u8], fields: &[Field]) -> Option<usize>
-        ensures { result ≡ left self.now (mark.now ++ show_fields (map field_said fields.now)) }
+        ensures { result ≡ left self.now (show_marked mark.now fields.now) }
     {
         let Page { out, len } = self;
         let room = out.len().checked_sub(*len)?;
-        let mut left = room.checked_sub(mark.len())?;
-        for field in fields {
-            left = after_field(left, field)?;
-        }
-        Some(left)
+        let left = room.checked_sub(mark.len())?;
+        fields.iter().try_fold(left, after_field)
     }
 
     // Writes a mark and its fields next; writes nothing where they do not fit.
     pub fn put_fields(&mut self, mark: &[u8], fields: &[Field]) -> Result<(), Refusal>
-        ensures { Put self.old (mark.now ++ show_fields (map field_said fields.now)) self.new result }
+        ensures { Put self.old (show_marked mark.now fields.now) self.new result }
     {
         self.room_after(mark, fields).ok_or(Refusal::Small)?;
         self.push_fields(mark, fields);

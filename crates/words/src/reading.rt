@@ -48,10 +48,7 @@ fn number(bytes: &[u8]) -> Option<i32>
     if is_loose(bytes) {
         return None;
     }
-    match str::from_utf8(bytes) {
-        Ok(text) => text.parse().ok(),
-        Err(_) => None,
-    }
+    str::from_utf8(bytes).ok()?.parse().ok()
 }
 
 // The word that the bytes are.

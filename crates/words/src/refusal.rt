@@ -7,7 +7,7 @@ use std::fmt;
 
 #[derive(Clone, Copy, Debug, PartialEq, Eq)]
 pub enum Refusal {
-    Overlong,
+    Overlong = 1,
     Broken,
     Misplaced,
     Full,
@@ -20,22 +20,11 @@ pub enum Refusal {
 }
 
 impl Refusal {
-    // The number that is printed for it. Not discriminants: with one number given twice they would not even compile.
+    // The number that is printed for it.
     pub fn number(self) -> u8
         ensures { result ≡ number_of self }
     {
-        match self {
-            Refusal::Overlong => 1,
-            Refusal::Broken => 2,
-            Refusal::Misplaced => 3,
-            Refusal::Full => 4,
-            Refusal::Twice => 5,
-            Refusal::Unknown => 6,
-            Refusal::Wild => 7,
-            Refusal::Small => 8,
-            Refusal::Over => 9,
-            Refusal::Absent => 10,
-        }
+        self as u8
     }
 }
 
