@@ -4,8 +4,8 @@ use Rattle.std.proofs.lemmas.List.{append_assoc, append-nil, nil_from_length}
 use Rattle.std.proofs.lemmas.Bool.{and_parts, eqb-true, false≢true}
 use Rattle.waiting.specs.declared.wish.Entry.{Entry}
 use Rattle.waiting.specs.Queues.{first}
-use Rattle.channels.specs.declared.channel.SendError.TheVariants.{ShortBank, Closed}
-use Rattle.channels.specs.declared.channel.ReceiveError.TheVariants.{ShortBank as NoBank}
+use Rattle.channels.specs.declared.errors.SendError.TheVariants.{ShortBank, Closed}
+use Rattle.channels.specs.declared.errors.ReceiveError.TheVariants.{ShortBank as NoBank}
 use Rattle.channels.specs.Seen.{Told}
 use Rattle.channels.specs.Rules.{sent, sent_to, after_sent}
 use Rattle.channels.specs.Receives.{got, got_in, after_got}

@@ -7,12 +7,12 @@ use Rattle.rings.proofs.Turns.{Turned, turned_fresh, turned_put, turned_take, ne
 use Rattle.waiting.specs.declared.wish.Entry.{Entry}
 use Rattle.channels.specs.declared.channel.Sent.{Sent}
 use Rattle.channels.specs.declared.channel.Sent.TheVariants.{Handed, Buffered}
-use Rattle.channels.specs.declared.channel.SendError.{SendError}
-use Rattle.channels.specs.declared.channel.SendError.TheVariants.{ShortBank, Closed}
+use Rattle.channels.specs.declared.errors.SendError.{SendError}
+use Rattle.channels.specs.declared.errors.SendError.TheVariants.{ShortBank, Closed}
 use Rattle.channels.specs.declared.channel.Received.{Received}
 use Rattle.channels.specs.declared.channel.Received.TheVariants.{Taken, Handed as Passed, Drained}
-use Rattle.channels.specs.declared.channel.ReceiveError.{ReceiveError}
-use Rattle.channels.specs.declared.channel.ReceiveError.TheVariants.{ShortBank as NoBank}
+use Rattle.channels.specs.declared.errors.ReceiveError.{ReceiveError}
+use Rattle.channels.specs.declared.errors.ReceiveError.TheVariants.{ShortBank as NoBank}
 use Rattle.channels.specs.Rules.{sent, sent_to, cells_sent, offered}
 use Rattle.channels.specs.Receives.{got, got_in, cells_got}
 use Rattle.channels.specs.Places.{Act, sending, receiving, shutting, Turn, met, buffered_sent, buffered_got, buffered_by, cells_by, Filling, filled_sent, filled_got, filled_by, filled, unfilled, NthCell}

@@ -7,8 +7,8 @@ use Rattle.waiting.specs.declared.wish.Side.TheVariants.{Receivers, Senders}
 use Rattle.waiting.specs.declared.wish.Entry.{Entry}
 use Rattle.waiting.specs.Queues.{Row, queue, first, without}
 use Rattle.waiting.specs.Laws.{others}
-use Rattle.channels.specs.declared.channel.SendError.TheVariants.{ShortBank, Closed}
-use Rattle.channels.specs.declared.channel.ReceiveError.TheVariants.{ShortBank as ShortOfCells}
+use Rattle.channels.specs.declared.errors.SendError.TheVariants.{ShortBank, Closed}
+use Rattle.channels.specs.declared.errors.ReceiveError.TheVariants.{ShortBank as ShortOfCells}
 use Rattle.channels.specs.Rules.{sent_to, after_sent, offered}
 use Rattle.channels.specs.Receives.{got_in, after_got}
 use Rattle.channels.specs.Closes.{both, freed, without_all}

@@ -6,8 +6,8 @@ use Rattle.waiting.specs.Lines.{State}
 use Rattle.waiting.specs.Queues.{Row, queue, without}
 use Rattle.waiting.specs.Laws.{others}
 use Rattle.channels.specs.declared.channel.Channel.{Channel}
-use Rattle.channels.specs.declared.channel.CloseError.{CloseError}
-use Rattle.channels.specs.declared.channel.CloseError.TheVariants.{AlreadyClosed, NoRoom}
+use Rattle.channels.specs.declared.errors.CloseError.{CloseError}
+use Rattle.channels.specs.declared.errors.CloseError.TheVariants.{AlreadyClosed, NoRoom}
 
 -- the receivers, and after them the senders
 abbrev pub both : {X : Type 0} → ℕ → List ℕ → List (Row X) → List (Entry X)

@@ -3,10 +3,10 @@ use Rattle.std.specs.Prelude.{◌≡◌, ℕ, Bool, true, cond, not, ◌&&◌, �
 use Rattle.waiting.specs.declared.wish.Entry.{Entry}
 use Rattle.channels.specs.declared.channel.Sent.{Sent}
 use Rattle.channels.specs.declared.channel.Sent.TheVariants.{Handed, Buffered}
-use Rattle.channels.specs.declared.channel.SendError.{SendError}
+use Rattle.channels.specs.declared.errors.SendError.{SendError}
 use Rattle.channels.specs.declared.channel.Received.{Received}
 use Rattle.channels.specs.declared.channel.Received.TheVariants.{Taken, Handed as Passed, Drained}
-use Rattle.channels.specs.declared.channel.ReceiveError.{ReceiveError}
+use Rattle.channels.specs.declared.errors.ReceiveError.{ReceiveError}
 use Rattle.channels.specs.Seen.{Told}
 use Rattle.channels.specs.Rules.{sent, after_sent, parted, offered}
 use Rattle.channels.specs.Receives.{got, after_got}

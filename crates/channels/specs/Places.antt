@@ -5,10 +5,10 @@ use Rattle.rings.specs.Laws.{placed}
 use Rattle.waiting.specs.declared.wish.Entry.{Entry}
 use Rattle.channels.specs.declared.channel.Sent.{Sent}
 use Rattle.channels.specs.declared.channel.Sent.TheVariants.{Handed, Buffered}
-use Rattle.channels.specs.declared.channel.SendError.{SendError}
+use Rattle.channels.specs.declared.errors.SendError.{SendError}
 use Rattle.channels.specs.declared.channel.Received.{Received}
 use Rattle.channels.specs.declared.channel.Received.TheVariants.{Taken, Handed as Passed, Drained}
-use Rattle.channels.specs.declared.channel.ReceiveError.{ReceiveError}
+use Rattle.channels.specs.declared.errors.ReceiveError.{ReceiveError}
 use Rattle.channels.specs.declared.channel.Channel.{Channel}
 use Rattle.channels.specs.Seen.{Told, told, shut}
 use Rattle.channels.specs.Rules.{sent, cells_sent, laid_sent}

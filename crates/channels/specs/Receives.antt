@@ -6,8 +6,8 @@ use Rattle.waiting.specs.Queues.{first, without, released}
 use Rattle.rings.specs.Layouts.{Layout, next_cell, one_more, one_less}
 use Rattle.channels.specs.declared.channel.Received.{Received}
 use Rattle.channels.specs.declared.channel.Received.TheVariants.{Taken, Handed, Drained}
-use Rattle.channels.specs.declared.channel.ReceiveError.{ReceiveError}
-use Rattle.channels.specs.declared.channel.ReceiveError.TheVariants.{ShortBank, Empty}
+use Rattle.channels.specs.declared.errors.ReceiveError.{ReceiveError}
+use Rattle.channels.specs.declared.errors.ReceiveError.TheVariants.{ShortBank, Empty}
 use Rattle.channels.specs.declared.channel.Channel.{Channel}
 use Rattle.channels.specs.Seen.{Told}
 use Rattle.channels.specs.Rules.{offered, parted}

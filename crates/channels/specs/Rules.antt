@@ -9,8 +9,8 @@ use Rattle.waiting.specs.Laws.{others}
 use Rattle.rings.specs.Layouts.{Layout, next_cell, one_more}
 use Rattle.channels.specs.declared.channel.Sent.{Sent}
 use Rattle.channels.specs.declared.channel.Sent.TheVariants.{Handed, Buffered}
-use Rattle.channels.specs.declared.channel.SendError.{SendError}
-use Rattle.channels.specs.declared.channel.SendError.TheVariants.{ShortBank, Closed, Full}
+use Rattle.channels.specs.declared.errors.SendError.{SendError}
+use Rattle.channels.specs.declared.errors.SendError.TheVariants.{ShortBank, Closed, Full}
 use Rattle.channels.specs.declared.channel.Channel.{Channel}
 use Rattle.channels.specs.Seen.{Told}
 

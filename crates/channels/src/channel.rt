@@ -42,32 +42,3 @@ pub enum Received<E, X> {
     // Nothing is buffered, no sender waits and the channel is closed: the zero element, with flag 0.
     Drained,
 }
-
-// Why a send was refused; nothing changed.
-#[derive(Clone, Copy, Debug, PartialEq, Eq)]
-pub enum SendError {
-    // The bank has not all cells of the channel.
-    ShortBank,
-    // The channel is closed.
-    Closed,
-    // No receiver waits and the buffer is full.
-    Full,
-}
-
-// Why a receive was refused; nothing changed.
-#[derive(Clone, Copy, Debug, PartialEq, Eq)]
-pub enum ReceiveError {
-    // The bank has not all cells of the channel.
-    ShortBank,
-    // Nothing is buffered, no sender waits and the channel is open.
-    Empty,
-}
-
-// Why a close was refused; nothing changed.
-#[derive(Clone, Copy, Debug, PartialEq, Eq)]
-pub enum CloseError {
-    // It was closed before.
-    AlreadyClosed,
-    // There is no room to note 64 routines.
-    NoRoom,
-}

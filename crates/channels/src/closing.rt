@@ -3,7 +3,8 @@ ghost use Rattle.std.specs.Prelude.{◌≡◌, ◌+◌, ◌-◌, ◌≤◌, ◌+
 ghost use Rattle.channels.specs.Closes.{freed_at, line_closed, closing};
 ghost use Rattle.channels.specs.Seen.{shut};
 
-use crate::channel::{Channel, CloseError};
+use crate::channel::Channel;
+use crate::errors::CloseError;
 use waiting::{Entry, Waiting};
 
 impl Channel {

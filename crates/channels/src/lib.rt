@@ -3,9 +3,11 @@
 
 mod channel;
 mod closing;
+mod errors;
 mod laws;
 mod making;
 mod rules;
 
-pub use channel::{Carries, Channel, CloseError, ReceiveError, Received, SendError, Sent};
+pub use channel::{Carries, Channel, Received, Sent};
+pub use errors::{CloseError, ReceiveError, SendError};
 pub use laws::{channels_keep_order, channels_keep_places, channels_stay_settled};

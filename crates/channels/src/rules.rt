@@ -9,11 +9,12 @@ ghost use Rattle.channels.specs.Receives.{got, got_from, after_got, line_got, ce
 ghost use Rattle.waiting.specs.declared.wish.Side.TheVariants.{Receivers, Senders};
 ghost use Rattle.waiting.specs.Laws.{Served};
 
-use crate::channel::{Carries, Channel, ReceiveError, Received, SendError, Sent};
+use crate::channel::{Carries, Channel, Received, Sent};
+use crate::errors::{ReceiveError, SendError};
 use elements::Element;
 use waiting::{Entry, Queue, Side, Waiting, Wish};
 
-// The element that a queued sender offers.
+// The element that a queued sender offers. Definitions take `carried` and `nought` apart: no bound of theirs joins the two.
 fn offered_by<E: Element, X: Carries<E>>(sender: Entry<X>) -> E
     ensures { result ≡ offered X.carried E.nought sender }
 {

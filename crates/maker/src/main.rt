@@ -4,7 +4,7 @@
 mod pair;
 
 use anyhow::Context;
-use channels::{Channel, CloseError, ReceiveError, Received, SendError, Sent};
+use channels::{Channel, ReceiveError, Received, SendError, Sent};
 use pair::Pair;
 use waiting::{Waiting, Wish};
 
@@ -24,9 +24,7 @@ fn print_sent(
     match sent {
         Ok(Sent::Handed(to)) => println!(rt; "send {pair}: handed to routine {}", to.routine)?,
         Ok(Sent::Buffered) => println!(rt; "send {pair}: buffered")?,
-        Err(SendError::ShortBank) => println!(rt; "send {pair}: the bank is too short")?,
-        Err(SendError::Closed) => println!(rt; "send {pair}: the channel is closed")?,
-        Err(SendError::Full) => println!(rt; "send {pair}: the buffer is full")?,
+        Err(why) => println!(rt; "send {pair}: {why}")?,
     }
     Ok(())
 }
@@ -44,8 +42,7 @@ fn print_received(
             println!(rt; "receive {pair} of routine {}", from.routine)?
         }
         Ok(Received::Drained) => println!(rt; "receive: closed and empty")?,
-        Err(ReceiveError::ShortBank) => println!(rt; "receive: the bank is too short")?,
-        Err(ReceiveError::Empty) => println!(rt; "receive: nothing is there")?,
+        Err(why) => println!(rt; "receive: {why}")?,
     }
     Ok(())
 }
@@ -72,8 +69,7 @@ impl Desk {
         let mut freed = Vec::with_capacity(rt.alloc(), 64)?;
         match self.channel.close(&mut self.waiting, &mut freed) {
             Ok(count) => println!(rt; "close: {count} released")?,
-            Err(CloseError::AlreadyClosed) => println!(rt; "close: closed before")?,
-            Err(CloseError::NoRoom) => println!(rt; "close: no room")?,
+            Err(why) => println!(rt; "close: {why}")?,
         }
         Ok(())
     }

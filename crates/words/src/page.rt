@@ -8,7 +8,8 @@ use crate::refusal::Refusal;
 
 // The bytes of `out`, of which the first `len` are written. Not std's `Cursor<&mut [u8]>`: its `write` does not say that
 // the reference stays the same, so its caller would learn nothing of `out`. Nor `write!`: what it ensures holds where
-// it succeeds, and a line that does not fit has to leave the page as it was.
+// it succeeds, and a line that does not fit has to leave the page as it was. That `len` is within `out` is no ghost field,
+// which the check does not cover beside a `&mut`.
 #[derive(Drop)]
 pub struct Page<'a> {
     out: &'a mut [u8],

@@ -6,7 +6,8 @@ use crate::refusal::Fault;
 use crate::spelling::is_name;
 use std::str;
 
-// A part of the text: a name is borrowed from it, numbers and registers are data.
+// A part of the text: a name is borrowed from it, numbers and registers are data. An enum can have no Model, so clauses
+// say `said`.
 #[derive(Clone, Copy, Debug)]
 pub enum Word<'a> {
     Name(&'a [u8]),
