@@ -1,9 +1,9 @@
 -- No mark has a zero byte.
-use Rattle.std.proofs.Common.{◌≡◌, ℕ, ◌-◌, ◌<◌, ◌&&◌, eqb, List, [], ◌∷◌, length, get_or, take, drop, Err, sym, refl, ◌∙◌, arith}
+use Rattle.std.proofs.Common.{◌≡◌, ℕ, ◌<◌, ◌&&◌, eqb, List, [], ◌∷◌, Err, refl, ◌∙◌, arith}
 use Rattle.std.specs.List.{AllByRecursion}
 use Rattle.std.proofs.lemmas.Bool.{and_right, cond-false, ne_eqb}
 use Rattle.words.specs.Refusals.{broken}
-use Rattle.lines.specs.Lines.{Format, formats, chosen, read_line}
+use Rattle.lines.specs.Lines.{Format, formats, chosen}
 
 -- no mark has a 0, so a line with fewer than two bytes has none
 pub no_mark : (fs : List Format) → AllByRecursion (λ f. 0 < f.second) fs → (n a : ℕ) (rest : List ℕ) → chosen fs n a 0 rest ≡ Err (broken n)
