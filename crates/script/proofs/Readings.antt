@@ -25,10 +25,19 @@ pub read_all : (d : Made) (n : ℕ) (t : List ℕ) → pieces t ≡ [] → readi
 unfolding read_on
 read_all d n t h = ap (λ ps. behind d.lines (read_on n d.standing ps)) h ∙ ap Ok (append-nil d.lines)
 
--- a piece of the rest of the text t, up to its byte `end`, as line n
-module _ (d d' : Made) (n end i : ℕ) (t rest piece rest' : List ℕ) (cut : rest ≡ piece ++ rest') (len : length piece ≡ min (i + 1) (length rest)) (some : 0 < length rest) (first : IsFirstMatchOrLen (λ b. eqb b 10) rest i) (before : end + length rest ≡ length t) where
+-- a piece cut off the rest of the text t, which is left from its byte `end` on
+pub record Cut (end : ℕ) (t rest piece rest' : List ℕ) : Type 0 where
+  pub i : ℕ
+  pub cut : rest ≡ piece ++ rest'
+  pub len : length piece ≡ min (i + 1) (length rest)
+  pub some : 0 < length rest
+  pub first : IsFirstMatchOrLen (λ b. eqb b 10) rest i
+  pub before : end + length rest ≡ length t
+
+-- it is read as line n
+module _ (d d' : Made) (n end : ℕ) (t rest piece rest' : List ℕ) (here : Cut end t rest piece rest') where
   pub end_after : (end + length piece) + length rest' ≡ length t
-  end_after = omega (arith, before, ap length cut, length-append piece rest')
+  end_after = omega (arith, here.before, ap length here.cut, length-append piece rest')
 
   last_piece : eqb (end + length piece) (length t) ≡ none_left (pieces rest')
   last_piece = ends (length rest') (end + length piece) (length t) end_after ∙ sym (none_pieces rest')
@@ -36,7 +45,7 @@ module _ (d d' : Made) (n end i : ℕ) (t rest piece rest' : List ℕ) (cut : re
   at_piece : reading d n rest ≡ behind d.lines (judged n d.standing (eqb (end + length piece) (length t)) (read_piece n piece) (λ l. read_on (n + 1) (standing d.standing (role l)) (pieces rest')))
   unfolding read_on
   at_piece =
-      ap (λ ps. behind d.lines (read_on n d.standing ps)) (cut_piece rest piece rest' i cut len some first)
+      ap (λ ps. behind d.lines (read_on n d.standing ps)) (cut_piece rest piece rest' here.i here.cut here.len here.some here.first)
       ∙ ap (λ b. behind d.lines (judged n d.standing b (read_piece n piece) (λ l. read_on (n + 1) (standing d.standing (role l)) (pieces rest')))) (sym last_piece)
 
   pub piece_refused : (e : Fault) → Reads d n piece (eqb (end + length piece) (length t)) d' (Err e) → reading d n rest ≡ Err e

@@ -23,7 +23,7 @@ impl Draft {
     fn read_one(&mut self, bytes: &[u8], number: usize, last: bool) -> Result<(), Fault>
         ensures { Reads self.old number bytes.now last self.new result }
     {
-        // not `?`: tried, and the check makes no plan for a `Line<Name>` that is kept over the branch
+        // not `?`: tried: a `Line<Name>` is then kept over the branch, and the check does not load what it holds (as in `keep`)
         match read_piece(bytes, number) {
             Ok(line) => self.admit(&line, number, last),
             Err(fault) => Err(fault),
