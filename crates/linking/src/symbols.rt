@@ -54,7 +54,7 @@ fn opened(line: &Line<Name>) -> Option<Name>
 }
 
 // The channels that the lines declare. Apart from `bodies` and `of`: tried with both chains in `of`, and no proof closed;
-// tried as one generic function over `f`, and what it says of the closure is longer than both.
+// tried as one generic function that takes a closure, whose contract is longer than both, and no proof closed either.
 fn channels(lines: &[Line<Name>], heap: Global) -> Result<Vec<Channel>, AllocError>
     ensures { IfOk result (λ found. found.items ≡ named_channels lines.now) }
 {
