@@ -16,6 +16,7 @@ impl Channel {
         ensures line { waiting.new ≡ line_closed self.now waiting.old }
     {
         let before = freed.len();
+        // a loop: each turn changes the line and the list, of which a closure's caller would learn nothing
         while let Some(entry) = self.release_next(waiting) {
             freed.push_reserved(entry);
         }

@@ -4,6 +4,8 @@ ghost use Rattle.channels.specs.Printed.{send_refusal, receive_refusal, close_re
 
 use std::fmt;
 
+// Each call has errors of its own, so that a caller meets only what can come of it.
+
 // Why a send was refused.
 #[derive(Clone, Copy, Debug, PartialEq, Eq)]
 pub enum SendError {

@@ -32,7 +32,7 @@ impl Channel {
         self.ring.capacity()
     }
 
-    // How many elements it buffers, and what is true of every ring.
+    // How many elements it buffers; and what is true of its ring, as under the ring's `count`.
     pub fn count(&self) -> usize
         ensures is { result ≡ self.now.ring.count }
         ensures sound { Sound self.now.ring }

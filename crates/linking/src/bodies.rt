@@ -10,9 +10,9 @@ ghost use Rattle.linking.specs.Stages.{Makes};
 use crate::declared::Body;
 use crate::operation::Operation;
 use crate::stop::Stop;
-use crate::symbols::Symbols;
+use crate::symbols::{Symbols, opened};
 use crate::targets::wild;
-use lines::{Line, Role};
+use lines::Line;
 use std::alloc::Global;
 use words::{Fault, Name, Refusal};
 
@@ -20,7 +20,7 @@ use words::{Fault, Name, Refusal};
 fn opens(line: &Line<Name>) -> bool
     ensures { result ≡ is_opens (role_of line.now) }
 {
-    matches!(line.role(), Role::Opens(_))
+    opened(line).is_some()
 }
 
 // How many lines stand before the next that opens a body. Apart from `own`: tried in one with it, by `take_while`,
@@ -48,15 +48,9 @@ impl Symbols {
     ) -> Result<Operation, Fault>
         ensures { result ≡ link_line self.now body.now number line.now }
     {
-        let operation = self.operation(line).ok_or(Fault {
-            refusal: Refusal::Unknown,
-            line: number,
-        })?;
+        let operation = self.operation(line).ok_or(Refusal::Unknown.at(number))?;
         if wild(body, line) {
-            return Err(Fault {
-                refusal: Refusal::Wild,
-                line: number,
-            });
+            return Err(Refusal::Wild.at(number));
         }
         Ok(operation)
     }

@@ -5,6 +5,7 @@ ghost use Rattle.linking.specs.declared.stop.Stop.TheVariants.{Faulty, Memory};
 use std::alloc::{AllocError, AllocFailed};
 use words::Fault;
 
+// Not an `Option` of the fault: it is an error, and `?` makes it from each of its causes.
 #[derive(Clone, Copy, Debug, PartialEq, Eq)]
 pub enum Stop {
     // the script's first fault

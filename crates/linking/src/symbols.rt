@@ -44,7 +44,7 @@ fn declared(line: &Line<Name>) -> Option<Channel>
 }
 
 // The name of the body that a line opens, if it opens one.
-fn opened(line: &Line<Name>) -> Option<Name>
+pub(crate) fn opened(line: &Line<Name>) -> Option<Name>
     ensures { result ≡ opened (role_of line.now) }
 {
     match line.role() {

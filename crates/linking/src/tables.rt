@@ -34,10 +34,7 @@ impl Tables {
     {
         let symbols = Symbols::of(lines, heap)?;
         let bodies = symbols.link_bodies(lines, heap)?;
-        let main = symbols.main().ok_or(Fault {
-            refusal: Refusal::Unknown,
-            line: 0,
-        })?;
+        let main = symbols.main().ok_or(Refusal::Unknown.at(0))?;
         let Symbols {
             channels,
             bodies: _,

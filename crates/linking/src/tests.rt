@@ -38,28 +38,10 @@ fn a_script_links_and_lists(rt: HostRuntime) -> Result<(), Fail> {
 #[test]
 fn a_fault_has_its_number_and_line(rt: HostRuntime) -> Result<(), Fail> {
     let unknown = stop_of(rt.alloc(), b"VC a 0\nRT main\nSD b v0\nJP 9\n")?;
-    assert_eq!(rt;
-        unknown,
-        Stop::Faulty(Fault {
-            refusal: Refusal::Unknown,
-            line: 3
-        })
-    );
+    assert_eq!(rt; unknown, Stop::Faulty(Refusal::Unknown.at(3)));
     let wild = stop_of(rt.alloc(), b"RT w\nJP 2\n")?;
-    assert_eq!(rt;
-        wild,
-        Stop::Faulty(Fault {
-            refusal: Refusal::Wild,
-            line: 2
-        })
-    );
+    assert_eq!(rt; wild, Stop::Faulty(Refusal::Wild.at(2)));
     let no_main = stop_of(rt.alloc(), b"RT w\nJP 1\n")?;
-    assert_eq!(rt;
-        no_main,
-        Stop::Faulty(Fault {
-            refusal: Refusal::Unknown,
-            line: 0
-        })
-    );
+    assert_eq!(rt; no_main, Stop::Faulty(Refusal::Unknown.at(0)));
     Ok(())
 }

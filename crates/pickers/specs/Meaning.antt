@@ -1,5 +1,5 @@
 -- What a picker means: the answers that it gives, whatever it keeps to find them.
-use Rattle.std.specs.Prelude.{◌≡◌, ℕ, List, [], ◌∷◌, ◌++◌, None, Option}
+use Rattle.std.specs.Prelude.{◌≡◌, ℕ, List, [], ◌∷◌, ◌++◌, None, Ok, Err, Option, Result}
 use Rattle.pickers.specs.declared.picker.Query.{Query}
 use Rattle.pickers.specs.Sets.{OneOf}
 
@@ -22,6 +22,11 @@ answers m (q ∷ qs) = answer m q ∷ answers (after m q) qs
 
 abbrev pub after_all : Meaning → List Query → Meaning
 after_all m qs = λ later. m (qs ++ later)
+
+-- the meaning that is left when it was asked them, or when it was not
+abbrev pub after_asking : {A E : Type 0} → Result A E → Meaning → List Query → Meaning
+after_asking (Ok a) m qs = after_all m qs
+after_asking (Err e) m qs = m
 
 -- The laws of a picker at its next query: it answers none or a case of the set, and to an empty set
 -- it answers none and keeps its meaning.

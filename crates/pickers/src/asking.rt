@@ -1,7 +1,7 @@
 // Asking a picker a list of queries: its answers, and its answers recorded as picks that a schedule can play again.
-ghost use Rattle.std.specs.Prelude.{◌≡◌, ◌+◌, ◌<◌, ◌≤◌, ◌++◌, Some, is_ok, IfOk, if◌then◌else◌, length, vec_len, vec_capacity};
+ghost use Rattle.std.specs.Prelude.{◌≡◌, ◌+◌, ◌<◌, ◌≤◌, ◌++◌, Some, IfOk, length, vec_len, vec_capacity};
 ghost use Rattle.std.specs.Option.{option_to_list};
-ghost use Rattle.pickers.specs.Meaning.{answers, after_all};
+ghost use Rattle.pickers.specs.Meaning.{answers, after_all, after_asking};
 ghost use Rattle.pickers.specs.Recording.{AllWithin, Rule, noted, pick_of, picks_of, Replayed};
 
 use crate::picker::{Picker, Query};
@@ -72,7 +72,7 @@ fn note_all<P: Picker, T: Note>(
     queries: &[Query],
 ) -> Result<Vec<T>, AllocError>
     ensures value { IfOk result (λ v. v.items ≡ noted T.rule queries.now (answers (P.meaning picker.old) queries.now)) }
-    ensures then { let m = P.meaning picker.old in P.meaning picker.new ≡ (if is_ok result then after_all m queries.now else m) }
+    ensures then { P.meaning picker.new ≡ after_asking result (P.meaning picker.old) queries.now }
     ensures within { IfOk result (λ _. AllWithin queries.now (answers (P.meaning picker.old) queries.now)) }
     ensures replayed { let os = answers (P.meaning picker.old) queries.now in
         IfOk result (λ _. Replayed (picks_of queries.now os) queries.now os) }
@@ -90,7 +90,7 @@ pub fn ask_all<P: Picker>(
     queries: &[Query],
 ) -> Result<Vec<Option<u8>>, AllocError>
     ensures value { IfOk result (λ v. v.items ≡ answers (P.meaning picker.old) queries.now) }
-    ensures then { let m = P.meaning picker.old in P.meaning picker.new ≡ (if is_ok result then after_all m queries.now else m) }
+    ensures then { P.meaning picker.new ≡ after_asking result (P.meaning picker.old) queries.now }
     ensures within { IfOk result (λ v. AllWithin queries.now v.items) }
 {
     note_all::<P, Option<u8>>(heap, picker, queries)
@@ -103,7 +103,7 @@ pub fn record_picks<P: Picker>(
     queries: &[Query],
 ) -> Result<Vec<Pick>, AllocError>
     ensures value { IfOk result (λ v. v.items ≡ picks_of queries.now (answers (P.meaning picker.old) queries.now)) }
-    ensures then { let m = P.meaning picker.old in P.meaning picker.new ≡ (if is_ok result then after_all m queries.now else m) }
+    ensures then { P.meaning picker.new ≡ after_asking result (P.meaning picker.old) queries.now }
     ensures replayed { IfOk result (λ v. Replayed v.items queries.now (answers (P.meaning picker.old) queries.now)) }
 {
     note_all::<P, Pick>(heap, picker, queries)

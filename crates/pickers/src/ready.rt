@@ -22,7 +22,8 @@ pub fn has(ready: u8, case: u32) -> bool
     case < 8 && (ready >> case) % 2 == 1
 }
 
-// The lowest ready case that is not below `from`, if there is one.
+// The lowest ready case that is not below `from`, if there is one. `within` is said too, here and below: by it a picker that
+// reads the set by these calls keeps its laws.
 #[tactic(auto, using(crate::specs::SetFacts::found_from))]
 pub fn lowest_from(ready: u8, from: u32) -> Option<u8>
     ensures value { result ≡ first (onward from (cases ready)) }

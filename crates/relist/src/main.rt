@@ -18,7 +18,7 @@ fn print_listing(rt: &HostRuntime, script: &Read, room: usize) -> io::Result<()>
     let mut out = vec![in rt.alloc(); 0u8; room]?;
     match script.list(&mut out) {
         Ok(len) => rt.stdout().write_all(&out[0..len]),
-        Err(refusal) => println!(rt; "{}", Fault { refusal, line: 0 }),
+        Err(refusal) => println!(rt; "{}", refusal.at(0)),
     }
 }
 

@@ -92,6 +92,7 @@ fn put_event(page: &mut Page, event: Event) -> Result<(), Refusal>
     }
 }
 
+// Apart from `put_move`: but for the `None` the two have nothing in common, and each `fits` is of its own type.
 fn put_picked(page: &mut Page, picked: Option<Picked>) -> Result<(), Refusal>
     ensures printed { Prints page.old (show_picked picked) page.new result }
     ensures fits { FitsPicked picked }

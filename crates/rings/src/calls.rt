@@ -16,8 +16,9 @@ fn zero_all<E: Element>(cells: &mut [E])
     cells.fill_with(move || zero);
 }
 
-// The bank is lent anew at each call, so that `self` and `bank` stand side by side, and each call asks `lies_in` first: a
-// value of the two would end with the loan, and what was asked of one bank says nothing of the next.
+// The bank is lent anew at each call, so that `self` and `bank` stand side by side, what is held (`held`) is of both, and
+// each call asks `lies_in` first: a value of the two would end with the loan, and what was asked of one bank says nothing of
+// the next.
 impl Ring {
     // Whether it holds no element.
     pub fn is_empty(&self) -> bool
@@ -33,7 +34,7 @@ impl Ring {
         self.count >= self.capacity
     }
 
-    // Whether a bank has all cells of the ring; and what is true of every ring.
+    // Whether a bank has all cells of the ring; and what is true of every ring, as under `count`.
     pub fn lies_in<E: Element>(&self, bank: &[E]) -> bool
         ensures covers { result ≡ covers self.now bank.now }
         ensures sound { Sound self.now }

@@ -37,7 +37,8 @@ impl Ring {
         self.capacity
     }
 
-    // How many elements it holds.
+    // How many elements it holds; and what is true of every ring, which a Model's invariant does not tell elsewhere: a
+    // caller has it from this call.
     pub fn count(&self) -> usize
         ensures is { result ≡ self.now.count }
         ensures sound { Sound self.now }

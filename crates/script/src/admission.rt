@@ -44,10 +44,7 @@ impl Draft {
     {
         self.standing
             .admit(&line.role(), last)
-            .map_err(|refusal| Fault {
-                refusal,
-                line: number,
-            })?;
+            .map_err(|refusal| refusal.at(number))?;
         keep(&mut self.lines, line);
         Ok(())
     }

@@ -24,10 +24,7 @@ impl Empty {
         ensures listed { IfOk result (λ s. ListedBack s text.now) }
     {
         if text.len() > 32768 {
-            let fault = Fault {
-                refusal: Refusal::Overlong,
-                line: 0,
-            };
+            let fault = Refusal::Overlong.at(0);
             return Err(Unread {
                 script: self,
                 fault,

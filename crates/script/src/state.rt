@@ -17,7 +17,7 @@ pub struct Empty {
 #[derive(Drop)]
 pub struct Read {
     pub(crate) draft: Draft,
-    // how many bytes its text has
+    // how many bytes its text has, so that a listing is refused before anything is written
     pub(crate) size: usize,
 }
 

@@ -21,7 +21,7 @@ pub struct Tally {
     pub defaulted: bool,
 }
 
-// How many cells there are for channels of that kind.
+// How many cells there are for channels of that kind: the `CELLS` of the kind's elements, which reading does not use.
 fn cells(kind: Kind) -> u32
     ensures { result ≡ cells_of kind }
 {

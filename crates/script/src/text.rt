@@ -34,7 +34,7 @@ impl Draft {
     pub(crate) fn read_text(&mut self, text: &[u8]) -> Result<(), Fault>
         ensures { outcome result self.new ≡ reading self.old 1 text.now }
     {
-        // where the line read last ends
+        // where the line read last ends, so that the last line is known: to `peek` at the next asks for a `while let`
         let mut end = 0;
         for (place, bytes) in text.split_inclusive(|b| *b == b'\n').enumerate() {
             end += bytes.len();

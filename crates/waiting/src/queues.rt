@@ -11,8 +11,9 @@ use crate::line::Waiting;
 use crate::wish::{Entry, Queue, Wish};
 use std::alloc::{AllocError, Global};
 
-// Writes a routine's cases into its row, which has room for them: joining needs no memory. A loop, since by its contract
-// `extend_from_slice` may take memory even where there is room, and no method for slices says that it takes none.
+// Writes a routine's cases into its row, which has room for them: joining needs no memory. A loop, since
+// `extend_from_slice` succeeds where there is room, but its contract lets the room grow: it does not say that no memory is
+// taken, and a step may take none.
 fn lay<X: Copy>(row: &mut Vec<Option<Wish<X>>>, wishes: &[Option<Wish<X>>])
     requires { length wishes.now ≤ vec_capacity row.old }
     ensures items { row.new.items ≡ wishes.now }

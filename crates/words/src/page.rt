@@ -86,7 +86,8 @@ impl<'a> Page<'a> {
         fields.iter().try_fold(left, after_field)
     }
 
-    // Writes a mark and its fields next; writes nothing where they do not fit.
+    // Writes a mark and its fields next; writes nothing where they do not fit. The two go side by side: a value of both would
+    // be made for each line that is listed, and taken apart here.
     pub fn put_fields(&mut self, mark: &[u8], fields: &[Field]) -> Result<(), Refusal>
         ensures { Put self.old (show_marked mark.now fields.now) self.new result }
     {

@@ -1,6 +1,6 @@
 // Why a call is refused, and at which line of the text.
 ghost use Rattle.std.specs.Prelude.{◌≡◌};
-ghost use Rattle.words.specs.Refusals.{number_of};
+ghost use Rattle.words.specs.Refusals.{number_of, fault};
 ghost use Rattle.words.specs.Refusals.{broken as broken_at};
 
 use std::fmt;
@@ -26,6 +26,16 @@ impl Refusal {
     {
         self as u8
     }
+
+    // It, at that line.
+    pub fn at(self, line: usize) -> Fault
+        ensures { result ≡ fault self line }
+    {
+        Fault {
+            refusal: self,
+            line,
+        }
+    }
 }
 
 // A refusal of a text, at a line counted from 1, or 0 for the whole text.
@@ -36,14 +46,11 @@ pub struct Fault {
 }
 
 impl Fault {
-    // A line, word or number out of form.
+    // A number, a word or a line out of form.
     pub fn broken(line: usize) -> Fault
         ensures { result ≡ broken_at line }
     {
-        Fault {
-            refusal: Refusal::Broken,
-            line,
-        }
+        Refusal::Broken.at(line)
     }
 }
 
