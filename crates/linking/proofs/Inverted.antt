@@ -1,6 +1,7 @@
 -- What a script that was linked was linked from: line by line, and body by body.
 use Rattle.std.proofs.Common.{◌≡◌, ℕ, ◌+◌, Bool, true, false, List, [], ◌∷◌, Some, None, Ok, Err, Option, Result, refl, ap, subst}
 use Rattle.words.specs.declared.refusal.Fault.{Fault}
+use Rattle.words.proofs.Same.{ok_same}
 use Rattle.lines.specs.declared.line.Line.{Line}
 use Rattle.linking.specs.declared.declared.Declared.{Declared}
 use Rattle.linking.specs.declared.operation.Operation.{Operation}
@@ -9,9 +10,6 @@ use Rattle.linking.specs.Naming.{Known, operation}
 use Rattle.linking.specs.Parts.{Part, target, wild}
 use Rattle.linking.specs.Links.{settled, link_line, both, link_lines, blocked, link_part, link_parts, with_main}
 use Rattle.std.specs.List.{AllZip}
-
-ok_same : {X : Type 0} {x y : X} → ◌≡◌ {A = Result X Fault} (Ok x) (Ok y) → x ≡ y
-ok_same p = cc
 
 -- ---- one step of linking, from its result
 both_back : {A : Type 0} (r : Result A Fault) (rest : Result (List A) Fault) (as' : List A) → both r rest ≡ Ok as' → (a : A) × (more : List A) × (r ≡ Ok a) × (rest ≡ Ok more) × (a ∷ more ≡ as')

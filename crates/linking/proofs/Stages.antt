@@ -1,9 +1,11 @@
 -- One line, or one body, further in linking.
 use Rattle.std.proofs.Common.{◌≡◌, ℕ, ◌+◌, ◌-◌, ◌<◌, ◌≤◌, Bool, true, false, cond, List, [], ◌∷◌, ◌++◌, length, get_or, take, drop, Ok, Err, Result, sym, refl, ap, ◌∙◌, arith}
-use Rattle.std.proofs.lemmas.List.{append_assoc, append-nil, at_drop_more, at_drop_all, take_rest}
+use Rattle.std.proofs.lemmas.List.{append-nil, at_drop_more, at_drop_all, take_rest}
 use Rattle.words.specs.declared.refusal.Fault.{Fault}
 use Rattle.lines.specs.declared.line.Line.{Line}
 use Rattle.lines.specs.Roles.{role}
+use Rattle.script.specs.Drafts.{behind}
+use Rattle.script.proofs.Readings.{behind_more}
 use Rattle.script_laws.specs.Lawful.{is_opens}
 use Rattle.linking.specs.declared.operation.Operation.{Operation}
 use Rattle.linking.specs.declared.stop.Stop.{Stop}
@@ -13,15 +15,6 @@ use Rattle.linking.specs.Naming.{Known}
 use Rattle.linking.specs.Parts.{own, parts}
 use Rattle.linking.specs.Links.{both, link_line, link_lines, link_part, link_parts}
 use Rattle.linking.specs.Stages.{Stopped}
-
--- what was made before stands in front
-abbrev pub behind : {A : Type 0} → List A → Result (List A) Fault → Result (List A) Fault
-behind done (Ok more) = Ok (done ++ more)
-behind done (Err e) = Err e
-
-behind_more : {A : Type 0} (done : List A) (a : A) (r : Result (List A) Fault) → behind done (both (Ok a) r) ≡ behind (done ++ (a ∷ [])) r
-behind_more done a (Ok more) = ap Ok (sym (append_assoc done (a ∷ []) more))
-behind_more done a (Err e) = refl
 
 -- the next part was made, and stands behind what was; or it has a fault, and that is the whole's
 module _ {A : Type 0} (done : List A) (whole rest more : Result (List A) Fault) (part : Result A Fault) (so_far : whole ≡ behind done rest) (next : rest ≡ both part more) where

@@ -5,6 +5,7 @@ use Rattle.words.specs.declared.refusal.Fault.{Fault}
 use Rattle.words.specs.Refusals.{fault}
 use Rattle.lines.specs.declared.line.Line.{Line}
 use Rattle.script.specs.Rules.{place}
+use Rattle.script.specs.Texts.{in_front}
 use Rattle.linking.specs.declared.declared.Declared.{Declared}
 use Rattle.linking.specs.declared.operation.Operation.{Operation}
 use Rattle.linking.specs.Programs.{Block, Program}
@@ -21,10 +22,10 @@ settled n (Some o) false = Ok o
 abbrev pub link_line : Known → List (Line (List ℕ)) → ℕ → Line (List ℕ) → Result Operation Fault
 link_line k body n l = settled n (operation k l) (wild body (target l))
 
+-- the first fault of the two, or the one in front of the others
 abbrev pub both : {A : Type 0} → Result A Fault → Result (List A) Fault → Result (List A) Fault
 both (Err e) rest = Err e
-both (Ok a) (Err e) = Err e
-both (Ok a) (Ok as') = Ok (a ∷ as')
+both (Ok a) rest = in_front a rest
 
 -- lines of that body, from text line n on
 unfoldable pub link_lines : Known → List (Line (List ℕ)) → ℕ → List (Line (List ℕ)) → Result (List Operation) Fault

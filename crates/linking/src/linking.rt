@@ -1,6 +1,6 @@
 // Linking a script that was read, and listing one that is linked.
-ghost use Rattle.std.specs.Prelude.{◌≡◌};
-ghost use Rattle.script.specs.States.{Printed};
+ghost use Rattle.std.specs.Prelude.{◌≡◌, length};
+ghost use Rattle.words.specs.Pages.{Printed};
 ghost use Rattle.script.specs.Texts.{show};
 ghost use Rattle.linking.specs.Answers.{Links, Exact};
 
@@ -24,7 +24,7 @@ pub fn link(script: Read, heap: Global) -> Result<Linked, Unlinked>
 impl Linked {
     // Writes the text of the script at the front of `out`, and answers its length.
     pub fn list(&self, out: &mut [u8]) -> Result<usize, Refusal>
-        ensures { Printed out.old (show self.now.script) out.new result }
+        ensures { Printed (length (show self.now.script)) out.old (show self.now.script) out.new result }
     {
         self.script.list(out)
     }

@@ -1,12 +1,12 @@
 // Printing a report.
 ghost use Rattle.std.specs.Prelude.{◌≡◌, ◌^◌, ◌<◌, ◌≤◌, ◌++◌, [], ◌∷◌, map, IfOk};
 ghost use Rattle.words.specs.Shows.{show_fields, field_said};
-ghost use Rattle.words.specs.Pages.{Prints};
+ghost use Rattle.words.specs.Pages.{Prints, Printed};
 ghost use Rattle.reports.specs.Shows.{natural, text_line, way, show_turn, show_event, show_picked, show_move, show_report};
 ghost use Rattle.std.specs.Int.Signed.{mag};
 ghost use Rattle.words.specs.Words.{number};
 ghost use Rattle.reports.specs.Bounds.{FitsPass, FitsDeed, FitsEvent, FitsPicked, FitsMove};
-ghost use Rattle.reports.specs.Prints.{Printed, PrintsShort};
+ghost use Rattle.reports.specs.Prints.{PrintsShort};
 
 use crate::report::{Deed, Event, Move, Pass, Picked, Report};
 use words::{Field, Page, Refusal};
@@ -128,9 +128,9 @@ impl Report {
     }
 
     // Writes the report's text at the front of `out` and answers its length; refuses an `out` of fewer than 128 bytes,
-    // and leaves it as it was.
+    // and leaves it as it was. Apart from the listing of a script, as the line beside that says.
     pub fn print(&self, out: &mut [u8]) -> Result<usize, Refusal>
-        ensures printed { Printed out.old (show_report self.now) out.new result }
+        ensures printed { Printed 128 out.old (show_report self.now) out.new result }
         ensures short { IfOk result (λ n. n ≤ 128) }
     {
         if out.len() < 128 {

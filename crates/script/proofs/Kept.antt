@@ -8,12 +8,13 @@ use Rattle.words.specs.declared.refusal.Refusal.TheVariants.{Overlong}
 use Rattle.words.specs.declared.refusal.Fault.{Fault}
 use Rattle.words.specs.Refusals.{fault, broken}
 use Rattle.words.specs.Words.{span}
+use Rattle.words.proofs.Same.{ok_same}
 use Rattle.lines.specs.declared.line.Line.{Line}
 use Rattle.lines.specs.Lines.{read_line}
 use Rattle.lines.specs.Roles.{role}
 use Rattle.lines.specs.Shows.{show_line, Good}
 use Rattle.text_laws.proofs.Numbers.{either}
-use Rattle.text_laws.proofs.WordLaws.{err_ok, ok_same}
+use Rattle.text_laws.proofs.WordLaws.{err_ok}
 use Rattle.text_laws.proofs.LineLaws.{lists_back}
 use Rattle.script.specs.Rules.{Standing, fresh, standing, judge}
 use Rattle.script.specs.Texts.{onto, pieces, none_left, read_piece, admitted, judged, read_on, read_script, show}

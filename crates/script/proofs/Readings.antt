@@ -7,13 +7,13 @@ use Rattle.words.specs.declared.refusal.Fault.{Fault}
 use Rattle.lines.specs.declared.line.Line.{Line}
 use Rattle.lines.specs.Roles.{role}
 use Rattle.script.specs.Rules.{standing}
-use Rattle.script.specs.Texts.{pieces, none_left, read_piece, admitted, judged, read_on}
+use Rattle.script.specs.Texts.{pieces, none_left, read_piece, in_front, admitted, judged, read_on}
 use Rattle.script.specs.Drafts.{Made, Reads, behind, reading}
 use Rattle.script.proofs.Pieces.{none_pieces, cut_piece}
 
-behind_more : (ls : List (Line (List ℕ))) (l : Line (List ℕ)) (n : ℕ) (o : Result (List (Line (List ℕ))) Fault) → behind ls (admitted None n l o) ≡ behind (ls ++ (l ∷ [])) o
-behind_more ls l n (Ok ms) = ap Ok (sym (append_assoc ls (l ∷ []) ms))
-behind_more ls l n (Err e) = refl
+pub behind_more : {A : Type 0} (done : List A) (a : A) (o : Result (List A) Fault) → behind done (in_front a o) ≡ behind (done ++ (a ∷ [])) o
+behind_more done a (Ok more) = ap Ok (sym (append_assoc done (a ∷ []) more))
+behind_more done a (Err e) = refl
 
 -- the end is reached where nothing is left
 ends : (k m n : ℕ) → m + k ≡ n → eqb m n ≡ eqb k 0
@@ -58,5 +58,5 @@ module _ (d d' : Made) (n end : ℕ) (t rest piece rest' : List ℕ) (here : Cut
       at_piece
       ∙ ap (λ o. behind d.lines (judged n d.standing (eqb (end + length piece) (length t)) o (λ m. read_on (n + 1) (standing d.standing (role m)) ps))) h.1
       ∙ ap (λ o. behind d.lines (admitted o n h.0 more)) h.2
-      ∙ behind_more d.lines h.0 n more
+      ∙ behind_more d.lines h.0 more
       ∙ ap (λ m. behind m.lines (read_on (n + 1) m.standing ps)) (sym h.3)

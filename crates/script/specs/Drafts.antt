@@ -29,9 +29,10 @@ pub record Within (t : Tally) (n : ℕ) : Type 0 where
   pub lines : t.lines ≤ 512
 
 -- ---- reading into a draft
-abbrev pub behind : List (Line (List ℕ)) → Result (List (Line (List ℕ))) Fault → Result (List (Line (List ℕ))) Fault
-behind ls (Ok ms) = Ok (ls ++ ms)
-behind ls (Err e) = Err e
+-- what was made before stands in front of what comes of the rest
+abbrev pub behind : {A : Type 0} → List A → Result (List A) Fault → Result (List A) Fault
+behind done (Ok more) = Ok (done ++ more)
+behind done (Err e) = Err e
 
 -- what comes of a text from here on, its first line being line n
 abbrev pub reading : Made → ℕ → List ℕ → Result (List (Line (List ℕ))) Fault

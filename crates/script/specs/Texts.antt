@@ -29,11 +29,15 @@ none_left (x ∷ xs) = false
 abbrev pub read_piece : ℕ → List ℕ → Result (Line (List ℕ)) Fault
 read_piece n p = cond (suc (span 10 p) == length p) (read_line n (take (span 10 p) p)) (Err (broken n))
 
+-- a in front of the others, or their fault
+abbrev pub in_front : {A : Type 0} → A → Result (List A) Fault → Result (List A) Fault
+in_front a (Ok as') = Ok (a ∷ as')
+in_front a (Err e) = Err e
+
 -- the lines after a line that is admitted, or why line n is not
 abbrev pub admitted : Option Refusal → ℕ → Line (List ℕ) → Result (List (Line (List ℕ))) Fault → Result (List (Line (List ℕ))) Fault
 admitted (Some why) n l rest = Err (fault why n)
-admitted None n l (Ok ls) = Ok (l ∷ ls)
-admitted None n l (Err e) = Err e
+admitted None n l rest = in_front l rest
 
 abbrev pub judged : ℕ → Standing → Bool → Result (Line (List ℕ)) Fault → (Line (List ℕ) → Result (List (Line (List ℕ))) Fault) → Result (List (Line (List ℕ))) Fault
 judged n s last (Err e) rest = Err e

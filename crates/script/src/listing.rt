@@ -1,16 +1,16 @@
 // Listing a script that was read.
-ghost use Rattle.std.specs.Prelude.{◌≡◌, [], ◌∷◌, ◌++◌};
-ghost use Rattle.words.specs.Pages.{Prints};
+ghost use Rattle.std.specs.Prelude.{◌≡◌, [], ◌∷◌, ◌++◌, length};
+ghost use Rattle.words.specs.Pages.{Prints, Printed};
 ghost use Rattle.lines.specs.Shows.{show_line};
 ghost use Rattle.script.specs.Kept.{Kept};
 ghost use Rattle.script.specs.Texts.{show};
-ghost use Rattle.script.specs.States.{Printed};
 
 use crate::state::Read;
 use lines::{Line, put_line};
 use words::{Name, Page, Refusal};
 
-// Writes a line and its end next, where there is room for them.
+// Writes a line and its end next, where there is room for them. Apart from `put_line` of reports, which is given a mark and
+// fields: here the line chooses both, and what is common is the one call that ends it.
 fn put_ended(page: &mut Page, line: Line<Name>) -> Result<(), Refusal>
     ensures { Prints page.old (show_line line ++ (10 ∷ [])) page.new result }
 {
@@ -36,9 +36,10 @@ impl Read {
         self.draft.lines()
     }
 
-    // Writes the text of the script at the front of `out`, and answers its length.
+    // Writes the text of the script at the front of `out`, and answers its length. Apart from a report's `print`: one
+    // function over what writes would owe the text that comes of it as a premise, and a public call has none.
     pub fn list(&self, out: &mut [u8]) -> Result<usize, Refusal>
-        ensures { Printed out.old (show self.now) out.new result }
+        ensures { Printed (length (show self.now)) out.old (show self.now) out.new result }
     {
         if out.len() < self.size {
             return Err(Refusal::Small);

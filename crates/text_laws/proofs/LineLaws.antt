@@ -8,6 +8,7 @@ use Rattle.words.specs.Refusals.{broken}
 use Rattle.words.specs.Words.{Said, name, number, value, handle, read_word, Sound}
 use Rattle.words.specs.Shows.{show_word}
 use Rattle.words.proofs.Spans.{Free, Stops}
+use Rattle.words.proofs.Same.{some_same, ok_same}
 use Rattle.lines.specs.declared.line.Operand.{Operand}
 use Rattle.lines.specs.declared.line.Operand.TheVariants.{Named, Held}
 use Rattle.lines.specs.declared.line.Line.{Line}
@@ -16,8 +17,8 @@ use Rattle.lines.specs.Lines.{Reader, then, read_field, kept, only, as_value, as
 use Rattle.lines.specs.Shows.{show_line, from_operand, natural, Good}
 use Rattle.lines.proofs.Marks.{no_mark, marked}
 use Rattle.text_laws.specs.Laws.{ReadsBack, ListsBack, NoEnd}
-use Rattle.text_laws.proofs.Numbers.{either, some_same}
-use Rattle.text_laws.proofs.WordLaws.{err_ok, ok_same, free_word, read_word_there, read_word_back}
+use Rattle.text_laws.proofs.Numbers.{either}
+use Rattle.text_laws.proofs.WordLaws.{err_ok, free_word, read_word_there, read_word_back}
 
 -- ---- what a reader reads, s writes in front of the rest, and the other way;
 -- and s writes no end of a line

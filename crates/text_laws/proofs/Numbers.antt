@@ -9,14 +9,12 @@ use Rattle.std.proofs.lemmas.Bool.{cases_lt, and_parts, and_from, cond-true, con
 use Rattle.std.proofs.lemmas.Bool.Decides.{nat_tests}
 use Rattle.words.specs.Words.{read_on, plain, digits_within, numeral_within, negated, posited, number_of, number, Sound}
 use Rattle.words.proofs.Numerals.{own}
+use Rattle.words.proofs.Same.{some_same}
 
 -- a choice that came out as an answer
 pub either : {X : Type 0} (b : Bool) (x y z : X) → cond b x y ≡ z → ((b ≡ true) × (x ≡ z)) ⊎ ((b ≡ false) × (y ≡ z))
 either true x y z e = inl (refl, e)
 either false x y z e = inr (refl, e)
-
-pub some_same : {X : Type 0} {x y : X} → ◌≡◌ {A = Option X} (Some x) (Some y) → x ≡ y
-some_same e = cc
 
 -- ---- from a text to its number
 numeral_back : (limit : ℕ) (ds : List ℕ) (m : ℕ) → limit < 2 ^ 64 → numeral_within limit ds ≡ Some m → (m ≤ limit) × (decimal m ≡ ds)

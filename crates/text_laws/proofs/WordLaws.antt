@@ -13,13 +13,11 @@ use Rattle.words.specs.Words.{Said, name, number, value, handle, span, register,
 use Rattle.words.specs.Shows.{show_word}
 use Rattle.words.proofs.Spans.{Free, Stops, span_front, free_lowers}
 use Rattle.words.proofs.Numerals.{own}
+use Rattle.words.proofs.Same.{ok_same}
 use Rattle.text_laws.proofs.Numbers.{either, number_there, number_back, lead_decimal}
 
 pub err_ok : {X : Type 0} {e : Fault} {x : X} → ◌≡◌ {A = Result X Fault} (Err e) (Ok x) → ⊥
 err_ok p = let z : ◌≡◌ {A = ℕ} 0 1 = cc in omega arith
-
-pub ok_same : {X : Type 0} {x y : X} → ◌≡◌ {A = Result X Fault} (Ok x) (Ok y) → x ≡ y
-ok_same p = cc
 
 -- ---- a word alone
 -- what a register is written as

@@ -1,5 +1,5 @@
 -- What a page holds, and what writing leaves on it.
-use Rattle.std.specs.Prelude.{◌≡◌, ℕ, ◌+◌, ◌-◌, true, cond, Bool, List, [], ◌++◌, length, take, drop, Some, None, Option, Ok, Err, Result, nat_le}
+use Rattle.std.specs.Prelude.{◌≡◌, ℕ, ◌+◌, ◌-◌, true, cond, Bool, List, [], ◌++◌, length, take, drop, Some, None, Option, Ok, Err, Result, nat_le, nat_lt}
 use Rattle.std.specs.Borrow.{MutBor}
 use Rattle.words.specs.declared.refusal.Refusal.{Refusal}
 use Rattle.words.specs.declared.refusal.Refusal.TheVariants.{Small}
@@ -47,3 +47,8 @@ pub record Put (p : Page) (ys : List ℕ) (q : Page) (r : Result (Unit {0}) Refu
 pub record Prints (p : Page) (ys : List ℕ) (q : Page) (r : Result (Unit {0}) Refusal) : Type 0 where
   pub answer : fits p ys ≡ true → r ≡ Ok tt
   pub after : fits p ys ≡ true → Wrote p ys q
+
+-- the text stands at the front of what there was, if that has n bytes, and its length is answered; else nothing changed
+pub record Printed (n : ℕ) (out t out' : List ℕ) (r : Result ℕ Refusal) : Type 0 where
+  pub answered : r ≡ cond (nat_lt (length out) n) (Err Small) (Ok (length t))
+  pub after : out' ≡ cond (nat_lt (length out) n) out (t ++ drop (length t) out)

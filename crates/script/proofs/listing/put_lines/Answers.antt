@@ -1,11 +1,11 @@
 use Rattle.std.proofs.Common.{refl, subst, List, ℕ}
 use Rattle.words.specs.Pages.{Wrote}
 use Rattle.words.proofs.Pages.{wrote_none, clash}
-use Rattle.script.proofs.Showing.{next, shown_all, shown_none}
+use Rattle.script.proofs.Showing.{next, first_all}
 use Rattle.script.proofs.listing.put_lines.Goals as goal
 
 pub loop-line-init : goal.loop-line-init
-loop-line-init c = rw (shown_none c.args.lines.now) (λ f. wrote_none c.args.page.now)
+loop-line-init c = λ f. wrote_none c.args.page.now
 
 pub returns-in_err-put_ended : goal.returns-in_err-put_ended
 returns-in_err-put_ended c =
@@ -19,4 +19,4 @@ loop-line-preserved c =
 pub returns : goal.returns
 returns c =
     let P : List ℕ → Type 0 = λ t. Wrote c.args.page.now t c.loop-line.page in
-    record { answer = λ f. refl; after = λ f. subst P (shown_all c.args.lines.now c.loop-line.line-index c.loop-line-test.false) (c.loop-line.invariant f) }
+    record { answer = λ f. refl; after = λ f. subst P (first_all c.args.lines.now c.loop-line.line-index c.loop-line-test.false) (c.loop-line.invariant f) }

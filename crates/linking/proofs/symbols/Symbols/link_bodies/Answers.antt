@@ -2,7 +2,8 @@ use Rattle.std.proofs.Common.{◌+◌, drop, vec_items, sym, ap, ◌∙◌}
 use Rattle.std.proofs.lemmas.Result.{err_from_is_err_and}
 use Rattle.linking.specs.Parts.{parts}
 use Rattle.linking.specs.Links.{link_parts}
-use Rattle.linking.proofs.Stages.{behind, part_made, part_faulty, stops_too, body_on, no_body_on, bodies_done}
+use Rattle.script.specs.Drafts.{behind}
+use Rattle.linking.proofs.Stages.{part_made, part_faulty, stops_too, body_on, no_body_on, bodies_done}
 use Rattle.linking.proofs.symbols.Symbols.link_bodies.Goals as goal
 use Rattle.linking.proofs.symbols.Symbols.link_bodies.Goals.{then-opens+in_ok-link_body+in_ok-push, else-opens}
 

@@ -1,7 +1,7 @@
 use Rattle.std.proofs.Common.{◌≡◌, ◌+◌, drop, vec_items}
 use Rattle.linking.specs.Parts.{parts}
 use Rattle.linking.specs.Links.{link_parts}
-use Rattle.linking.proofs.Stages.{behind}
+use Rattle.script.specs.Drafts.{behind}
 use Rattle.linking.proofs.symbols.Symbols.link_bodies.Given as goal
 
 abbrev pub invariant-loop-i : goal.invariant-loop-i

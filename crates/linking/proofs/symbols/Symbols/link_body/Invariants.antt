@@ -1,6 +1,6 @@
 use Rattle.std.proofs.Common.{◌≡◌, ◌+◌, drop, vec_items}
 use Rattle.linking.specs.Links.{link_lines}
-use Rattle.linking.proofs.Stages.{behind}
+use Rattle.script.specs.Drafts.{behind}
 use Rattle.linking.proofs.symbols.Symbols.link_body.Given as goal
 
 abbrev pub invariant-loop-i : goal.invariant-loop-i
