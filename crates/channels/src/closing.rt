@@ -8,7 +8,8 @@ use crate::errors::CloseError;
 use waiting::{Entry, Waiting};
 
 impl Channel {
-    // Releases all receivers and then all senders, each routine by its first entry met, and notes them in order.
+    // Releases all receivers and then all senders, each routine by its first entry met, and notes them in order. The list is
+    // the caller's, so that there is room in it is asked here and no fact of a type.
     fn release_all<X: Copy>(&self, waiting: &mut Waiting<X>, freed: &mut Vec<Entry<X>>) -> usize
         requires { vec_len freed.old + length waiting.old.line ≤ vec_capacity freed.old }
         ensures value { result ≡ length (freed_at self.now waiting.old) }

@@ -57,6 +57,8 @@ impl Channel {
         if let Some(receiver) = waiting.release_first(self.queue(Side::Receivers)) {
             return Ok(Sent::Handed(receiver));
         }
+        // only `Full` can come, since the bank was asked about first. Not `From` and `?`: a ring has reasons for which a send
+        // has none, and `From` would have to answer these too
         self.ring.put(bank, e).map_err(|_| SendError::Full)?;
         Ok(Sent::Buffered)
     }
@@ -113,6 +115,7 @@ impl Channel {
         }
         match self.ring.take(bank) {
             Ok(e) => Ok(Received::Taken(e, self.refill(waiting, bank))),
+            // only `Empty` can come, as in `send`, and it is no refusal here
             Err(_) => self.receive_unbuffered(waiting),
         }
     }

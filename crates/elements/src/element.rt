@@ -15,11 +15,12 @@ pub trait Element: Copy {
     // what a variable of the kind can hold
     ghost holds: { Self → Type 0 };
 
-    // The element that a cell holds before anything is put there.
+    // The element that a cell holds before anything is put there. Not `Default`: std's promises `is_default`, of which each
+    // maker of a kind would have to show besides that it is `nought`. So `Handle::nil` keeps its name too.
     fn zero() -> Self
         ensures { result ≡ nought };
 
-    // The number that an element is shown as.
+    // The number that an element is shown as. Not `Into`, which says by a relation what it gives; a law needs the number.
     fn code(self) -> u32
         ensures value { result ≡ coded self }
         ensures held { holds self };

@@ -32,7 +32,7 @@ impl Kind for Value {
     }
 }
 
-// A handle register.
+// A handle register. Apart from `Value`: the two differ in the variant of a pattern, and a variant is no parameter.
 pub(crate) enum Handle {}
 
 impl Kind for Handle {

@@ -82,6 +82,7 @@ impl Symbols {
         })
     }
 
+    // This and `case` share `exchange`; what is left of each is the variant that it makes.
     fn alone(&self, exchange: Exchange<Name>) -> Option<Operation>
         ensures { result ≡ alone_of self.now exchange }
     {

@@ -53,6 +53,9 @@ pub(crate) fn opened(line: &Line<Name>) -> Option<Name>
     }
 }
 
+// The lines and the heap go side by side, here and through linking: both are lent by who links, the lines are cut to those of
+// a body on the way, and a struct of the two would say nothing.
+
 // The channels that the lines declare. Apart from `bodies` and `of`: tried with both chains in `of`, and no proof closed;
 // tried as one generic function that takes a closure, whose contract is longer than both, and no proof closed either.
 fn channels(lines: &[Line<Name>], heap: Global) -> Result<Vec<Channel>, AllocError>

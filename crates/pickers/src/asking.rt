@@ -38,7 +38,8 @@ impl Note for Pick {
     }
 }
 
-// Puts one more note, if there is one, after the others.
+// Puts one more note, if there is one, after the others. That there is room, and how much afterwards, are clauses here and in
+// `note_each`: the list is handed out as a Vec, so a struct that holds it with its room would be put round it and taken off.
 fn add<T: Drop>(notes: &mut Vec<T>, note: Option<T>)
     requires { vec_len notes.old < vec_capacity notes.old }
     ensures items { notes.new.items ≡ notes.old.items ++ option_to_list note }
@@ -51,7 +52,9 @@ fn add<T: Drop>(notes: &mut Vec<T>, note: Option<T>)
 }
 
 // Asks the queries, one after the other, and keeps the notes on the answers. Whatever the notes are, the answers lie in
-// their sets, and the picks made of them give them again.
+// their sets, and the picks made of them give them again. A picker and queries, here and below, are lent apart by who asks,
+// as is the heap: a struct of them would be made for one call. What the answers are is said in each contract, since a caller
+// sees no other; it is one definition, `answers`.
 fn note_each<P: Picker, T: Note>(picker: &mut P, queries: &[Query], notes: &mut Vec<T>)
     requires { vec_len notes.old + length queries.now ≤ vec_capacity notes.old }
     ensures items { notes.new.items ≡ notes.old.items ++ noted T.rule queries.now (answers (P.meaning picker.old) queries.now) }

@@ -14,7 +14,8 @@ pub struct Turning {
 }
 
 impl Turning {
-    // A new one goes on as if its last answer had been 7, so that the first is the lowest ready case.
+    // A new one goes on as if its last answer had been 7, so that the first is the lowest ready case. Not `Default`: the zero
+    // that a derive gives is the wrong last answer, and by hand it would say no more than `new`.
     pub fn new() -> Turning
         ensures value { result.last ≡ 7 }
         ensures means { turning_from result.last ≡ fresh_turning }

@@ -54,6 +54,8 @@ fn put_way(page: &mut Page, pass: Pass) -> Result<(), Refusal>
     }
 }
 
+// A routine and a line go side by side, as in the variant `Turn` of an event, and a case and its pass as in `Passes`: a variant
+// cannot be handed on by itself, so a struct of what is in it would be made only to be taken apart.
 fn put_pass(page: &mut Page, routine: u8, line: u32, case: u8, pass: Pass) -> Result<(), Refusal>
     ensures printed { Prints page.old (show_turn routine line (Deed.Passes case pass)) page.new result }
     ensures fits { FitsDeed (Deed.Passes case pass) }

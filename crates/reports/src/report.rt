@@ -15,7 +15,7 @@ pub enum Panic {
 }
 
 impl Panic {
-    // The number that is printed for it.
+    // The number that is printed for it, as `Refusal::number` of words says of its own.
     pub fn number(self) -> u8
         ensures { result ≡ number_of self }
     {

@@ -50,8 +50,10 @@ impl Draft {
     }
 }
 
-// Puts a copy behind the others, for which there is room. Over any type: where it is a `Line`, the check does not load what a
-// line holds (tried: by reference, by value, with a copy in a local: "not told which modules hold the type", or not covered).
+// Puts a copy behind the others, for which there is room, and leaves the room as it is: that is two clauses, since a struct
+// that holds a list with its room would stand round one field, for this one call. Over any type: where it is a `Line`, the
+// check does not load what a line holds (tried: by reference, by value, with a copy in a local: "not told which modules hold
+// the type", or not covered).
 fn keep<T: Copy>(list: &mut Vec<T>, item: &T)
     requires { length list.old.items < vec_capacity list.old }
     ensures items { list.new.items ≡ list.old.items ++ (item.now ∷ []) }

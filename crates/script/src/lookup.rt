@@ -20,7 +20,8 @@ impl Named for Name {
     }
 }
 
-// The first place at which something of that name stands.
+// The first place at which something of that name stands. One after the other, and by no map: there are at most 32, and
+// reading allocates nothing, which entering a name in a map would do.
 pub fn find<T: Named>(items: &[T], name: &Name) -> Option<usize>
     ensures { result ≡ place name.now (map T.named items.now) }
 {

@@ -17,7 +17,8 @@ pub struct Empty {
 #[derive(Drop)]
 pub struct Read {
     pub(crate) draft: Draft,
-    // how many bytes its text has, so that a listing is refused before anything is written
+    // how many bytes its text has: a listing that does not fit is refused before anything is written, and without this it
+    // would go over the lines once more to know it
     pub(crate) size: usize,
 }
 

@@ -21,7 +21,8 @@ pub struct Tally {
     pub defaulted: bool,
 }
 
-// How many cells there are for channels of that kind: the `CELLS` of the kind's elements, which reading does not use.
+// How many cells there are for channels of that kind. Not `CELLS` of the kind's elements: for two numbers, reading would
+// depend on a crate of which it uses nothing else.
 fn cells(kind: Kind) -> u32
     ensures { result ≡ cells_of kind }
 {
@@ -31,6 +32,8 @@ fn cells(kind: Kind) -> u32
     }
 }
 
+// A kind and a capacity go side by side, as in the variant of `Role` that they come from: `Declared` of linking, a struct of
+// the two, lies above, and one here would be made of a role and taken apart again.
 impl Tally {
     // The capacities of that kind together.
     fn total(self, kind: Kind) -> u32

@@ -1,5 +1,5 @@
 -- The fields of a line, and the room that they leave.
-use Rattle.std.proofs.Common.{◌≡◌, ℕ, ◌+◌, List, [], ◌∷◌, ◌++◌, map, length, flat_map, Some, None, Option, Bor, ControlFlow, Continue, Break, sym, ap, subst, ◌∙◌, arith}
+use Rattle.std.proofs.Common.{◌≡◌, ℕ, List, [], ◌∷◌, map, length, flat_map, Some, None, Option, Bor, ControlFlow, Continue, Break, sym, ap, subst, arith}
 use Rattle.std.specs.ControlFlow.{continue_value}
 use Rattle.std.specs.Fn.{Mut, Called}
 use Rattle.std.specs.Iterator.{AlwaysYields, YieldsThen, TryFoldTurn, TryFoldsItems}

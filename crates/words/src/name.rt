@@ -1,8 +1,9 @@
 // A name, held by value.
 use std::marker::Model;
 
-// The letters of a name, with zeros after them: no String, since reading allocates nothing. A contract sees the letters
-// alone.
+// The letters of a name, with zeros after them: no String, since reading allocates nothing. Nor the kit's `ArrayString<8>`:
+// tried, and a Name may be `Copy` only where its letters give its fields back (`inverse`), but an `ArrayString` has bytes of
+// unused room, of which no clause says anything. A contract sees the letters alone.
 #[derive(Clone, Copy, PartialEq, Eq)]
 pub struct Name {
     pub(crate) letters: [u8; 8],

@@ -1,7 +1,7 @@
 // A page: a buffer that is written from the front.
-ghost use Rattle.std.specs.Prelude.{◌≡◌, ◌+◌, ◌≤◌, [], ◌∷◌, length};
+ghost use Rattle.std.specs.Prelude.{◌≡◌, true, [], ◌∷◌, length};
 ghost use Rattle.words.specs.Shows.{show_field, show_marked, field_said};
-ghost use Rattle.words.specs.Pages.{Begins, Wrote, Put, page_len, less, left};
+ghost use Rattle.words.specs.Pages.{Begins, Wrote, Put, fits, page_len, less, left};
 
 use crate::field::Field;
 use crate::refusal::Refusal;
@@ -44,7 +44,7 @@ impl<'a> Page<'a> {
 
     // Writes the bytes next, where there is room for them.
     fn push(&mut self, bytes: &[u8])
-        requires { self.old.len + length bytes.now ≤ length self.old.out.now }
+        requires { fits self.old bytes.now ≡ true }
         ensures { Wrote self.old bytes.now self.new }
     {
         let Page { out, len } = self;
@@ -55,7 +55,7 @@ impl<'a> Page<'a> {
 
     // The same for a space and a field.
     fn push_field(&mut self, field: &Field)
-        requires { self.old.len + length (show_field (field_said field.now)) ≤ length self.old.out.now }
+        requires { fits self.old (show_field (field_said field.now)) ≡ true }
         ensures { Wrote self.old (show_field (field_said field.now)) self.new }
     {
         let mut digits = itoa::Buffer::new();
@@ -67,7 +67,7 @@ impl<'a> Page<'a> {
 
     // The same for a mark and fields.
     fn push_fields(&mut self, mark: &[u8], fields: &[Field])
-        requires { self.old.len + length (show_marked mark.now fields.now) ≤ length self.old.out.now }
+        requires { fits self.old (show_marked mark.now fields.now) ≡ true }
         ensures { Wrote self.old (show_marked mark.now fields.now) self.new }
     {
         self.push(mark);

@@ -20,7 +20,8 @@ pub enum Refusal {
 }
 
 impl Refusal {
-    // The number that is printed for it.
+    // The number that is printed for it. As `Panic::number` of reports: `as` is of one enum, so a trait for the two would have
+    // this line twice.
     pub fn number(self) -> u8
         ensures { result ≡ number_of self }
     {

@@ -1,4 +1,5 @@
 use Rattle.std.proofs.Common.{◌≡◌, ◌+◌, ◌-◌, ◌≤◌, ◌++◌, length, take, refl, ap, ◌∙◌, arith}
+use Rattle.std.proofs.lemmas.Bool.{leb-true}
 use Rattle.std.proofs.lemmas.List.{length-append, length-take-le, length-drop}
 use Rattle.std.proofs.lemmas.Slice.{take-put_mid, drop-put_mid}
 use Rattle.words.proofs.page.Page.push.Goals as goal
@@ -11,7 +12,8 @@ returns c =
     let new = c.copy_from_slice.new.self in
     let same = c.copy_from_slice.ensures.after in
     let size : length new ≡ length c.args.bytes.now = ap length same in
-    let le : len ≤ length xs = omega arith in
+    let room : end ≤ length xs = leb-true end (length xs) c.requires in
+    let le : len ≤ length xs = omega (arith, room) in
     record {
       len = refl;
       size = simp (length-append, length-take-le, length-drop) (omega arith);

@@ -1,13 +1,14 @@
 use Rattle.std.proofs.Common.{[], ◌∷◌, length, sym, ap, arith}
+use Rattle.std.proofs.lemmas.Bool.Decides.{nat_tests}
 use Rattle.std.proofs.lemmas.List.{length-append}
 use Rattle.words.proofs.Pages.{wrote_then}
 use Rattle.words.proofs.page.Page.push_field.Goals as goal
 
 pub push-requires-2 : goal.push-requires-2
-push-requires-2 c = omega (arith, ap length c.parts.ensures, length-append c.parts.result.0.now c.parts.result.1.now)
+push-requires-2 c = grind (arith, nat_tests, ap length c.parts.ensures, length-append c.parts.result.0.now c.parts.result.1.now)
 
 pub push-requires-3 : goal.push-requires-3
-push-requires-3 c = omega (arith, ap length c.parts.ensures, length-append c.parts.result.0.now c.parts.result.1.now)
+push-requires-3 c = grind (arith, nat_tests, ap length c.parts.ensures, length-append c.parts.result.0.now c.parts.result.1.now)
 
 pub returns : goal.returns
 returns c =

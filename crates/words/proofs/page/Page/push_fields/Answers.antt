@@ -1,4 +1,5 @@
 use Rattle.std.proofs.Common.{ap, length, map, sym, ◌∙◌, arith}
+use Rattle.std.proofs.lemmas.Bool.Decides.{nat_tests}
 use Rattle.std.proofs.lemmas.List.{length-append}
 use Rattle.words.specs.Shows.{show_fields, field_said}
 use Rattle.words.proofs.Fields.{field, fields_are}
@@ -9,7 +10,7 @@ use Rattle.words.proofs.page.Page.push_fields.Goals as goal
 pub push_field-requires : goal.push_field-requires
 push_field-requires c =
     let fields = c.args.fields.now in
-    omega (arith, length-append c.args.mark.now (show_fields (map field_said fields)), ap length (fields_are fields), shown_room field fields c.loop-field.field-index c.loop-field-test.true c.field-item.result c.field-item.is)
+    grind (arith, nat_tests, length-append c.args.mark.now (show_fields (map field_said fields)), ap length (fields_are fields), shown_room field fields c.loop-field.field-index c.loop-field-test.true c.field-item.result c.field-item.is)
 
 pub loop-field-preserved : goal.loop-field-preserved
 loop-field-preserved c =
