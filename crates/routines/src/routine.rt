@@ -14,6 +14,14 @@ pub enum Passed {
     Broken,
 }
 
+// A routine that is released: by which of its cases, and how it will pass by it.
+#[derive(Clone, Copy)]
+pub struct Release {
+    pub routine: u32,
+    pub case: u8,
+    pub passed: Passed,
+}
+
 #[derive(Clone, Copy)]
 pub enum State {
     Ready,

@@ -19,7 +19,7 @@ use Rattle.routines.specs.declared.item.Item.{Item}
 use Rattle.routines.specs.declared.item.Item.TheVariants.{Value, Handle}
 use Rattle.routines.specs.declared.routine.Routine.{Routine}
 use Rattle.routines.specs.Registers.{value_at, handle_at}
-use Rattle.runs.specs.Runs.{Channel, Run, channel, queued}
+use Rattle.runs.specs.Runs.{Channel, Hub, channel, queued}
 
 -- ---- the cases of a line
 -- a case: what it exchanges, or nothing where it is the default, and the line that it goes on to
@@ -95,15 +95,15 @@ abbrev pub some : {A : Type 0} → List A → Bool
 some [] = false
 some (x ∷ xs) = true
 
-abbrev pub can_go : Run → Option (Wish Item) → Bool
-can_go run None = false
-can_go run (Some (wish.Send c e)) = (channel run c).closed || (nat_lt (length (channel run c).buffer) (channel run c).capacity || some (queued run Receivers c))
-can_go run (Some (wish.Receive c)) = (channel run c).closed || (some (channel run c).buffer || some (queued run Senders c))
+abbrev pub can_go : Hub → Option (Wish Item) → Bool
+can_go h None = false
+can_go h (Some (wish.Send c e)) = (channel h c).closed || (nat_lt (length (channel h c).buffer) (channel h c).capacity || some (queued h Receivers c))
+can_go h (Some (wish.Receive c)) = (channel h c).closed || (some (channel h c).buffer || some (queued h Senders c))
 
 -- the ready set, as a number: its binary digit k is 1 where case k can go
-abbrev pub ready_set : Run → Row Item → ℕ
-ready_set run [] = 0
-ready_set run (w ∷ ws) = cond (can_go run w) 1 0 + 2 * ready_set run ws
+abbrev pub ready_set : Hub → Row Item → ℕ
+ready_set h [] = 0
+ready_set h (w ∷ ws) = cond (can_go h w) 1 0 + 2 * ready_set h ws
 
 -- the number and the target of the default, the cases being numbered from k on
 abbrev pub or_default : Option (Exchange ℕ) → ℕ × ℕ → Option (ℕ × ℕ) → Option (ℕ × ℕ)
