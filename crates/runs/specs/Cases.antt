@@ -8,7 +8,7 @@ use Rattle.lines.specs.declared.line.Operand.{Operand}
 use Rattle.lines.specs.declared.line.Operand.TheVariants.{Named, Held}
 use Rattle.elements.specs.Codes.{handle_number}
 use Rattle.linking.specs.declared.operation.Operation.{Operation}
-use Rattle.linking.specs.declared.operation.Operation.TheVariants.{Set, Add, Sub, Jump, JumpNegative, Hold, Clear, Alone, Select, Case, Default, Close, Start, Print}
+use Rattle.linking.specs.declared.operation.Operation.TheVariants.{Alone, Select, Case, Default}
 use Rattle.linking.specs.declared.operation.Exchange.{Exchange}
 use Rattle.linking.specs.declared.operation.Exchange.TheVariants.{Send, Receive, SendHandle, ReceiveHandle}
 use Rattle.waiting.specs.declared.wish.Wish.{Wish}
@@ -28,37 +28,15 @@ pub record Branch : Type 0 where
   pub target : ℕ
 
 abbrev pub branch : Operation → Branch
-branch (Set v n) = record { exchange = None; target = 0 }
-branch (Add v w) = record { exchange = None; target = 0 }
-branch (Sub v w) = record { exchange = None; target = 0 }
-branch (Jump t) = record { exchange = None; target = 0 }
-branch (JumpNegative v t) = record { exchange = None; target = 0 }
-branch (Hold h c) = record { exchange = None; target = 0 }
-branch (Clear h) = record { exchange = None; target = 0 }
-branch (Alone e) = record { exchange = None; target = 0 }
-branch (Select n) = record { exchange = None; target = 0 }
 branch (Case e t) = record { exchange = Some e; target = t }
 branch (Default t) = record { exchange = None; target = t }
-branch (Close o) = record { exchange = None; target = 0 }
-branch (Start b) = record { exchange = None; target = 0 }
-branch (Print v) = record { exchange = None; target = 0 }
+branch _ = record { exchange = None; target = 0 }
 
 -- the cases at an operation, line i of a body, before the operations rest: an exchange alone is a select of one case
 abbrev pub branches_of : Operation → ℕ → List Operation → List Branch
-branches_of (Set v n) i rest = []
-branches_of (Add v w) i rest = []
-branches_of (Sub v w) i rest = []
-branches_of (Jump t) i rest = []
-branches_of (JumpNegative v t) i rest = []
-branches_of (Hold h c) i rest = []
-branches_of (Clear h) i rest = []
 branches_of (Alone e) i rest = record { exchange = Some e; target = i + 1 } ∷ []
 branches_of (Select n) i rest = map branch (take n rest)
-branches_of (Case e t) i rest = []
-branches_of (Default t) i rest = []
-branches_of (Close o) i rest = []
-branches_of (Start b) i rest = []
-branches_of (Print v) i rest = []
+branches_of _ i rest = []
 
 -- ---- which channel is meant
 abbrev pub is_value : Kind → Bool

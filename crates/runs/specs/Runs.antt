@@ -31,12 +31,16 @@ pub record Hub : Type 0 where
   pub line : List ℕ
   pub wishes : List (Row Item)
 
--- turns: the run queue; the routine whose turn it is stands at its front until its turn is done
-pub record Run : Type 0 where
+-- turns: the run queue; the routine whose turn it is stands at its front until its turn is done.
+-- A run in memory is the same over what memory keeps of the channels.
+pub record Parts (H : Type 0) : Type 0 where
   pub routines : List Routine
-  pub hub : Hub
+  pub hub : H
   pub turns : List ℕ
   pub over : Bool
+
+abbrev pub Run : Type 0
+Run = Parts Hub
 
 -- ---- looking things up
 abbrev pub nobody : Routine
@@ -45,7 +49,7 @@ nobody = record { body = 0; line = 0; state = Ended; values = []; handles = [] }
 abbrev pub no_channel : Channel
 no_channel = record { kind = Value; capacity = 0; closed = false; buffer = [] }
 
-abbrev pub routine : Run → ℕ → Routine
+abbrev pub routine : {H : Type 0} → Parts H → ℕ → Routine
 routine run r = slice_index_or run.routines r nobody
 
 abbrev pub channel : Hub → ℕ → Channel
@@ -92,25 +96,25 @@ joins r ws h = record h { line = h.line ++ (r ∷ []); wishes = written r ws h.w
 abbrev pub leaves : ℕ → Hub → Hub
 leaves r h = record h { line = without r h.line }
 
-abbrev pub with_routine : ℕ → Routine → Run → Run
+abbrev pub with_routine : {H : Type 0} → ℕ → Routine → Parts H → Parts H
 with_routine r x run = record run { routines = slice_set run.routines r x }
 
-abbrev pub with_turns : List ℕ → Run → Run
+abbrev pub with_turns : {H : Type 0} → List ℕ → Parts H → Parts H
 with_turns ts run = record run { turns = ts }
 
-abbrev pub stopped : Run → Run
+abbrev pub stopped : {H : Type 0} → Parts H → Parts H
 stopped run = record run { over = true }
 
 -- a released routine joins the run queue, and will pass by the case that it was released with
-abbrev pub release : Release → Run → Run
+abbrev pub release : {H : Type 0} → Release → Parts H → Parts H
 release w run = record run { routines = slice_set run.routines w.routine (in_state (Released w.case w.passed) (routine run w.routine)); turns = run.turns ++ (w.routine ∷ []) }
 
-abbrev pub release_all : List Release → Run → Run
+abbrev pub release_all : {H : Type 0} → List Release → Parts H → Parts H
 release_all [] run = run
 release_all (w ∷ ws) run = release_all ws (release w run)
 
 -- its turn is done: the routine stands as x, ready, at the end of the run queue
-abbrev pub goes_on : ℕ → Routine → Run → Run
+abbrev pub goes_on : {H : Type 0} → ℕ → Routine → Parts H → Parts H
 goes_on r x run = record run { routines = slice_set run.routines r (in_state Ready x); turns = drop 1 run.turns ++ (r ∷ []) }
 
 -- ---- living
@@ -120,7 +124,7 @@ lives Waiting = true
 lives (Released k p) = true
 lives Ended = false
 
-abbrev pub living : Run → ℕ
+abbrev pub living : {H : Type 0} → Parts H → ℕ
 living run = count_by (λ x. lives x.state) run.routines
 
 -- ---- the start: routine 0 at the first line of `main`, all channels open and empty

@@ -2,7 +2,7 @@
 use Rattle.std.specs.Prelude.{ℕ, ◌+◌, Bool, true, false, List, [], ◌∷◌, ◌++◌, length, drop, Some, None, Option, ◌==◌, nat_lt, slice_index_or, slice_set}
 use Rattle.std.specs.Option.{option_or}
 use Rattle.linking.specs.declared.operation.Operation.{Operation}
-use Rattle.linking.specs.declared.operation.Operation.TheVariants.{Set, Add, Sub, Jump, JumpNegative, Hold, Clear, Alone, Select, Case, Default as DefaultLine, Close, Start, Print}
+use Rattle.linking.specs.declared.operation.Operation.TheVariants.{Alone, Select, Close, Start, Print}
 use Rattle.linking.specs.declared.operation.Exchange.{Exchange}
 use Rattle.linking.specs.Programs.{Program}
 use Rattle.routines.specs.declared.routine.Release.{Release}
@@ -29,7 +29,7 @@ use Rattle.reports.specs.declared.report.Deed.TheVariants.{Plain, Waits, Passes,
 use Rattle.reports.specs.declared.report.Event.TheVariants.{Turn, Stall}
 use Rattle.reports.specs.declared.report.Picked.{Picked}
 use Rattle.reports.specs.declared.report.Report.{Report}
-use Rattle.runs.specs.Runs.{Run, routine, channel, operation_at, block_of, text_line, with_routine, with_turns, joins, release, release_all, stopped, goes_on, living}
+use Rattle.runs.specs.Runs.{Parts, Run, routine, channel, operation_at, block_of, text_line, with_routine, with_turns, joins, release, release_all, stopped, goes_on, living}
 use Rattle.runs.specs.Cases.{Branch, branches_of, channel_for, wish_of, wishes_of, ready_set, default_from}
 use Rattle.runs.specs.Taking.{Deal, take, dismissals, closed_at}
 
@@ -82,7 +82,7 @@ abbrev pub either : (ℕ → Passed → Option Move) → ℕ → Passed → Opti
 either f r p None = f r p
 either f r p (Some w) = option_or (f r p) (f w.routine w.passed)
 
-abbrev pub released_run : Option Release → Run → Run
+abbrev pub released_run : {H : Type 0} → Option Release → Parts H → Parts H
 released_run None run = run
 released_run (Some w) run = release w run
 
@@ -175,7 +175,7 @@ closing run m r p x (Some c) = close_channel run m r p x c (channel run.hub c).c
 abbrev pub born : ℕ → Routine → Routine
 born b x = record { body = b; line = 0; state = Ready; values = x.values; handles = x.handles }
 
-abbrev pub with_born : ℕ → Routine → Run → Run
+abbrev pub with_born : {H : Type 0} → ℕ → Routine → Parts H → Parts H
 with_born b x run = record run { routines = run.routines ++ (born b x ∷ []); turns = run.turns ++ (length run.routines ∷ []) }
 
 abbrev pub starting : Run → Meaning → ℕ → ℕ → Routine → ℕ → Bool → Step
@@ -183,7 +183,7 @@ starting run m r p x b false = panic r p Crowded run m
 starting run m r p x b true = only r p (Starts (length run.routines)) (goes_on r (at_line (x.line + 1) x) (with_born b x run)) m
 
 -- the end of routine 0 finishes the run
-abbrev pub ended : ℕ → Routine → Run → Run
+abbrev pub ended : {H : Type 0} → ℕ → Routine → Parts H → Parts H
 ended r x run = with_turns (drop 1 run.turns) (with_routine r (in_state Ended x) run)
 
 abbrev pub ending : Run → Meaning → ℕ → Routine → Bool → Step
@@ -193,20 +193,12 @@ ending run m r x false = only r 0 Ends (ended r x run) m
 -- ---- a turn
 -- at an operation, before those that follow it in the body; no routine comes to a case line
 abbrev pub acting : Run → Meaning → ℕ → ℕ → Routine → List Operation → Operation → Step
-acting run m r p x rest (Set v n) = only r p Plain (goes_on r (plain (Set v n) x) run) m
-acting run m r p x rest (Add v w) = only r p Plain (goes_on r (plain (Add v w) x) run) m
-acting run m r p x rest (Sub v w) = only r p Plain (goes_on r (plain (Sub v w) x) run) m
-acting run m r p x rest (Jump t) = only r p Plain (goes_on r (plain (Jump t) x) run) m
-acting run m r p x rest (JumpNegative v t) = only r p Plain (goes_on r (plain (JumpNegative v t) x) run) m
-acting run m r p x rest (Hold h c) = only r p Plain (goes_on r (plain (Hold h c) x) run) m
-acting run m r p x rest (Clear h) = only r p Plain (goes_on r (plain (Clear h) x) run) m
 acting run m r p x rest (Alone e) = selecting run m r p x (branches_of (Alone e) x.line rest)
 acting run m r p x rest (Select n) = selecting run m r p x (branches_of (Select n) x.line rest)
-acting run m r p x rest (Case e t) = only r p Plain (goes_on r (plain (Case e t) x) run) m
-acting run m r p x rest (DefaultLine t) = only r p Plain (goes_on r (plain (DefaultLine t) x) run) m
 acting run m r p x rest (Close o) = closing run m r p x (channel_for run.hub.channels x o)
 acting run m r p x rest (Start b) = starting run m r p x b (nat_lt (length run.routines) 64)
 acting run m r p x rest (Print v) = only r p (Prints (value_at x v).number) (goes_on r (at_line (x.line + 1) x) run) m
+acting run m r p x rest o = only r p Plain (goes_on r (plain o x) run) m
 
 -- one line, or the body's end
 abbrev pub at_operation : Run → Meaning → ℕ → ℕ → Routine → List Operation → Option Operation → Step
@@ -229,10 +221,8 @@ abbrev pub nothing_moved : Passed → Run → Taken
 nothing_moved q run = record { passed = q; accepted = None; received = None; drawn = None; stored = None; run = run }
 
 abbrev pub turn_in : Program → Run → Meaning → ℕ → Routine → State → Step
-turn_in p run m r x Ready = at_operation run m r (text_line p x) x (after_line p x) (operation_at p x)
-turn_in p run m r x Waiting = at_operation run m r (text_line p x) x (after_line p x) (operation_at p x)
-turn_in p run m r x Ended = at_operation run m r (text_line p x) x (after_line p x) (operation_at p x)
 turn_in p run m r x (Released k q) = passing run m r (text_line p x) k (branch_at (branches p x) k) None (nothing_moved q run) q
+turn_in p run m r x _ = at_operation run m r (text_line p x) x (after_line p x) (operation_at p x)
 
 -- the first routine of the run queue takes its turn; on an empty queue the run stalls
 abbrev pub turn : Program → Run → Meaning → List ℕ → Step

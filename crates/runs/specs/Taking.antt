@@ -1,18 +1,16 @@
 -- Taking a case, and closing: what it does to the channels and to those who wait at them.
 use Rattle.std.specs.Prelude.{ℕ, Bool, true, false, List, [], ◌∷◌, ◌++◌, map, Some, None, Option}
-use Rattle.lines.specs.declared.line.Kind.{Kind}
-use Rattle.lines.specs.declared.line.Kind.TheVariants.{Value as ValueKind, Handle as HandleKind}
 use Rattle.waiting.specs.declared.wish.Wish.{Wish}
 use Rattle.waiting.specs.declared.wish.Wish.TheVariants as wish
 use Rattle.waiting.specs.declared.wish.Entry.{Entry}
 use Rattle.waiting.specs.declared.wish.Side.TheVariants.{Receivers, Senders}
 use Rattle.channels.specs.Closes.{freed, without_all}
 use Rattle.routines.specs.declared.item.Item.{Item}
-use Rattle.routines.specs.declared.item.Item.TheVariants.{Value, Handle}
+use Rattle.routines.specs.declared.item.Item.TheVariants.{Value}
 use Rattle.routines.specs.declared.routine.Passed.{Passed}
 use Rattle.routines.specs.declared.routine.Passed.TheVariants.{Sent, Received, Drained, Broken}
 use Rattle.routines.specs.declared.routine.Release.{Release}
-use Rattle.routines.specs.Items.{as_value, as_handle}
+use Rattle.routines.specs.Items.{as_kind}
 use Rattle.elements.specs.Codes.{value_zero}
 use Rattle.runs.specs.Runs.{Hub, channel, queued, leaves, shut, with_buffer}
 
@@ -25,16 +23,12 @@ pub record Deal : Type 0 where
   pub stored : Option (ℕ × Item)
   pub hub : Hub
 
--- an element as one of that kind: on every channel elements are of the channel's own kind
-abbrev pub as_kind : Kind → Item → Item
-as_kind ValueKind e = Value (as_value e)
-as_kind HandleKind e = Handle (as_handle e)
-
 -- the element that a waiting case offers
 abbrev pub offer : Wish Item → Item
 offer (wish.Send c e) = e
 offer (wish.Receive c) = Value value_zero
 
+-- on every channel elements are of the channel's own kind
 abbrev pub offered : Hub → ℕ → Entry Item → Item
 offered h c w = as_kind (channel h c).kind (offer w.wish)
 
