@@ -9,7 +9,7 @@ use waiting::Entry;
 // line and a bank are lent to each call apart: one line serves the channels of every kind, a bank those of one.
 #[derive(Clone, Copy)]
 pub struct Channel {
-    pub(crate) number: u32,
+    pub(crate) number: u8,
     pub(crate) ring: Ring,
     pub(crate) closed: bool,
 }

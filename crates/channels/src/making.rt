@@ -8,7 +8,7 @@ use rings::Ring;
 
 impl Channel {
     // An open channel of that number, whose buffer has the `capacity` cells from `base` on.
-    pub fn new(number: u32, base: usize, capacity: usize) -> Option<Channel>
+    pub fn new(number: u8, base: usize, capacity: usize) -> Option<Channel>
         ensures { result ≡ new_channel number base capacity }
     {
         let ring = Ring::new(base, capacity)?;
@@ -19,7 +19,7 @@ impl Channel {
         })
     }
 
-    pub fn number(&self) -> u32
+    pub fn number(&self) -> u8
         ensures { result ≡ self.now.number }
     {
         self.number

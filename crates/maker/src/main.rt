@@ -59,7 +59,7 @@ impl Desk {
         print_received(rt, received)
     }
 
-    fn wait(&mut self, rt: &HostRuntime, routine: u32, wish: Wish<Pair>) -> anyhow::Result<()> {
+    fn wait(&mut self, rt: &HostRuntime, routine: u8, wish: Wish<Pair>) -> anyhow::Result<()> {
         let joined = self.waiting.join(routine, &[Some(wish)]);
         println!(rt; "routine {routine} waits: {joined}")?;
         Ok(())

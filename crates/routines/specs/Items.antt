@@ -1,5 +1,7 @@
--- Elements of both kinds, and what an altered handle stands for.
+-- Elements of both kinds.
 use Rattle.std.specs.Prelude.{ℕ}
+use Rattle.lines.specs.declared.line.Kind.{Kind}
+use Rattle.lines.specs.declared.line.Kind.TheVariants.{Value as ValueKind, Handle as HandleKind}
 use Rattle.elements.specs.declared.value.Value.{Value as Number}
 use Rattle.elements.specs.declared.handle.Handle.{Handle as Holder}
 use Rattle.elements.specs.Codes.{value_code, value_zero, handle_code, nil_handle}
@@ -18,3 +20,8 @@ as_value (Handle h) = value_zero
 abbrev pub as_handle : Item → Holder
 as_handle (Value v) = nil_handle
 as_handle (Handle h) = h
+
+-- an element as one of that kind
+abbrev pub as_kind : Kind → Item → Item
+as_kind ValueKind e = Value (as_value e)
+as_kind HandleKind e = Handle (as_handle e)

@@ -5,4 +5,4 @@ mod item;
 mod routine;
 
 pub use item::Item;
-pub use routine::{Passed, Routine, State};
+pub use routine::{Passed, Release, Routine, State};

@@ -6,12 +6,20 @@ use elements::{Handle, Value};
 // the code of an element, and a default, by which nobody is released.
 #[derive(Clone, Copy)]
 pub enum Passed {
-    Sent(usize, Item),
-    Received(usize, Item),
+    Sent(u8, Item),
+    Received(u8, Item),
     // a closed, empty channel
-    Drained(usize),
+    Drained(u8),
     // released from a send by a close
     Broken,
+}
+
+// A routine that is released: by which of its cases, and how it will pass by it.
+#[derive(Clone, Copy)]
+pub struct Release {
+    pub routine: u8,
+    pub case: u8,
+    pub passed: Passed,
 }
 
 #[derive(Clone, Copy)]

@@ -8,7 +8,7 @@ use Rattle.lines.specs.declared.line.Operand.{Operand}
 use Rattle.lines.specs.declared.line.Operand.TheVariants.{Named, Held}
 use Rattle.elements.specs.Codes.{handle_number}
 use Rattle.linking.specs.declared.operation.Operation.{Operation}
-use Rattle.linking.specs.declared.operation.Operation.TheVariants.{Set, Add, Sub, Jump, JumpNegative, Hold, Clear, Alone, Select, Case, Default, Close, Start, Print}
+use Rattle.linking.specs.declared.operation.Operation.TheVariants.{Alone, Select, Case, Default}
 use Rattle.linking.specs.declared.operation.Exchange.{Exchange}
 use Rattle.linking.specs.declared.operation.Exchange.TheVariants.{Send, Receive, SendHandle, ReceiveHandle}
 use Rattle.waiting.specs.declared.wish.Wish.{Wish}
@@ -19,7 +19,7 @@ use Rattle.routines.specs.declared.item.Item.{Item}
 use Rattle.routines.specs.declared.item.Item.TheVariants.{Value, Handle}
 use Rattle.routines.specs.declared.routine.Routine.{Routine}
 use Rattle.routines.specs.Registers.{value_at, handle_at}
-use Rattle.runs.specs.Runs.{Channel, Run, channel, queued}
+use Rattle.runs.specs.Runs.{Channel, Hub, channel, queued}
 
 -- ---- the cases of a line
 -- a case: what it exchanges, or nothing where it is the default, and the line that it goes on to
@@ -28,37 +28,15 @@ pub record Branch : Type 0 where
   pub target : ℕ
 
 abbrev pub branch : Operation → Branch
-branch (Set v n) = record { exchange = None; target = 0 }
-branch (Add v w) = record { exchange = None; target = 0 }
-branch (Sub v w) = record { exchange = None; target = 0 }
-branch (Jump t) = record { exchange = None; target = 0 }
-branch (JumpNegative v t) = record { exchange = None; target = 0 }
-branch (Hold h c) = record { exchange = None; target = 0 }
-branch (Clear h) = record { exchange = None; target = 0 }
-branch (Alone e) = record { exchange = None; target = 0 }
-branch (Select n) = record { exchange = None; target = 0 }
 branch (Case e t) = record { exchange = Some e; target = t }
 branch (Default t) = record { exchange = None; target = t }
-branch (Close o) = record { exchange = None; target = 0 }
-branch (Start b) = record { exchange = None; target = 0 }
-branch (Print v) = record { exchange = None; target = 0 }
+branch _ = record { exchange = None; target = 0 }
 
 -- the cases at an operation, line i of a body, before the operations rest: an exchange alone is a select of one case
 abbrev pub branches_of : Operation → ℕ → List Operation → List Branch
-branches_of (Set v n) i rest = []
-branches_of (Add v w) i rest = []
-branches_of (Sub v w) i rest = []
-branches_of (Jump t) i rest = []
-branches_of (JumpNegative v t) i rest = []
-branches_of (Hold h c) i rest = []
-branches_of (Clear h) i rest = []
 branches_of (Alone e) i rest = record { exchange = Some e; target = i + 1 } ∷ []
 branches_of (Select n) i rest = map branch (take n rest)
-branches_of (Case e t) i rest = []
-branches_of (Default t) i rest = []
-branches_of (Close o) i rest = []
-branches_of (Start b) i rest = []
-branches_of (Print v) i rest = []
+branches_of _ i rest = []
 
 -- ---- which channel is meant
 abbrev pub is_value : Kind → Bool
@@ -95,15 +73,15 @@ abbrev pub some : {A : Type 0} → List A → Bool
 some [] = false
 some (x ∷ xs) = true
 
-abbrev pub can_go : Run → Option (Wish Item) → Bool
-can_go run None = false
-can_go run (Some (wish.Send c e)) = (channel run c).closed || (nat_lt (length (channel run c).buffer) (channel run c).capacity || some (queued run Receivers c))
-can_go run (Some (wish.Receive c)) = (channel run c).closed || (some (channel run c).buffer || some (queued run Senders c))
+abbrev pub can_go : Hub → Option (Wish Item) → Bool
+can_go h None = false
+can_go h (Some (wish.Send c e)) = (channel h c).closed || (nat_lt (length (channel h c).buffer) (channel h c).capacity || some (queued h Receivers c))
+can_go h (Some (wish.Receive c)) = (channel h c).closed || (some (channel h c).buffer || some (queued h Senders c))
 
 -- the ready set, as a number: its binary digit k is 1 where case k can go
-abbrev pub ready_set : Run → Row Item → ℕ
-ready_set run [] = 0
-ready_set run (w ∷ ws) = cond (can_go run w) 1 0 + 2 * ready_set run ws
+abbrev pub ready_set : Hub → Row Item → ℕ
+ready_set h [] = 0
+ready_set h (w ∷ ws) = cond (can_go h w) 1 0 + 2 * ready_set h ws
 
 -- the number and the target of the default, the cases being numbered from k on
 abbrev pub or_default : Option (Exchange ℕ) → ℕ × ℕ → Option (ℕ × ℕ) → Option (ℕ × ℕ)

@@ -2,3 +2,4 @@ pub mod Runs
 pub mod Cases
 pub mod Taking
 pub mod Steps
+pub mod Orderly

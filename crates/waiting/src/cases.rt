@@ -17,7 +17,7 @@ impl Queue {
     }
 
     // The place of one case of a routine in this queue.
-    fn place<X: Copy>(self, routine: u32, case: u8, wish: Option<Wish<X>>) -> Option<Entry<X>>
+    fn place<X: Copy>(self, routine: u8, case: u8, wish: Option<Wish<X>>) -> Option<Entry<X>>
         ensures { result ≡ place self.side self.channel routine case wish }
     {
         match wish {
@@ -34,7 +34,7 @@ impl Queue {
 // The cases of one routine: at most 8.
 #[derive(Drop)]
 pub(crate) struct Cases<'a, X> {
-    pub(crate) routine: u32,
+    pub(crate) routine: u8,
     pub(crate) wishes: &'a [Option<Wish<X>>],
     pub(crate) ghost few: { length wishes.now ≤ 8 },
 }

@@ -7,7 +7,7 @@ use std::marker::Model;
 // no ArrayVec of 8 (tried: making one asks that 8 cases of type X fit in memory, which callers of `new` would have to show).
 #[derive(Drop)]
 pub struct Waiting<X> {
-    pub(crate) line: Vec<u32>,
+    pub(crate) line: Vec<u8>,
     pub(crate) table: Vec<Vec<Option<Wish<X>>>>,
 }
 

@@ -26,7 +26,7 @@ fn lay<X: Copy>(row: &mut Vec<Option<Wish<X>>>, wishes: &[Option<Wish<X>>])
 }
 
 // Takes the routine out of the line, and leaves the others in their order.
-fn strike(line: &mut Vec<u32>, routine: u32)
+fn strike(line: &mut Vec<u8>, routine: u8)
     ensures items { line.new.items ≡ without routine line.old.items }
     ensures room { vec_capacity line.new ≡ vec_capacity line.old }
 {
@@ -64,14 +64,14 @@ impl<X: Copy> Waiting<X> {
     }
 
     // Whether that routine waits.
-    pub fn waits(&self, routine: u32) -> bool
+    pub fn waits(&self, routine: u8) -> bool
         ensures { result ≡ is_waiting routine self.now.line }
     {
         self.line.contains(&routine)
     }
 
     // The cases of a routine.
-    fn cases_of(&self, routine: u32) -> Cases<'_, X>
+    fn cases_of(&self, routine: u8) -> Cases<'_, X>
         ensures who { result.routine ≡ routine }
         ensures what { result.wishes.now ≡ cases routine self.now.table }
     {
@@ -102,7 +102,7 @@ impl<X: Copy> Waiting<X> {
     }
 
     // Whether a routine with so many cases may join.
-    fn may_join(&self, routine: u32, cases: usize) -> bool
+    fn may_join(&self, routine: u8, cases: usize) -> bool
         ensures { result ≡ may_join routine cases self.now.line }
     {
         routine < 64 && cases <= 8 && !self.waits(routine)
@@ -111,7 +111,7 @@ impl<X: Copy> Waiting<X> {
     // The routine joins the end of the line with its cases, and with each stands behind all others.
     // False, and nothing changes, where there is no such routine, it has over 8 cases or it waits already. A bool, like
     // `insert` of a set: the caller has what it needs to know which of these it was.
-    pub fn join(&mut self, routine: u32, wishes: &[Option<Wish<X>>]) -> bool
+    pub fn join(&mut self, routine: u8, wishes: &[Option<Wish<X>>]) -> bool
         ensures answer { result ≡ may_join routine (length wishes.now) self.old.line }
         ensures behind { Joined result routine wishes.now self.old self.new }
         ensures steps { self.new ≡ step (joins routine wishes.now) self.old }
@@ -125,7 +125,7 @@ impl<X: Copy> Waiting<X> {
     }
 
     // The routine leaves every queue, and the others keep their order; the answer is whether it waited.
-    pub fn leave(&mut self, routine: u32) -> bool
+    pub fn leave(&mut self, routine: u8) -> bool
         ensures answer { result ≡ is_waiting routine self.old.line }
         ensures gone { Absent routine self.new }
         ensures order { Parted routine self.old self.new }

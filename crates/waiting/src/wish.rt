@@ -3,8 +3,8 @@
 // What a case waits for: to send an element on a channel, or to receive one from it.
 #[derive(Debug, Clone, Copy, PartialEq, Eq)]
 pub enum Wish<X> {
-    Send(u32, X),
-    Receive(u32),
+    Send(u8, X),
+    Receive(u8),
 }
 
 // The two sides of a channel at which routines wait.
@@ -18,13 +18,13 @@ pub enum Side {
 #[derive(Debug, Clone, Copy, PartialEq, Eq)]
 pub struct Queue {
     pub side: Side,
-    pub channel: u32,
+    pub channel: u8,
 }
 
 // A place in a queue: the routine, its case, and what that case waits for.
 #[derive(Debug, Clone, Copy, PartialEq, Eq)]
 pub struct Entry<X> {
-    pub routine: u32,
+    pub routine: u8,
     pub case: u8,
     pub wish: Wish<X>,
 }
