@@ -1,5 +1,5 @@
 -- What running meets at a place of a sound program: body n of it, which has nothing where there is none, and line i.
-use Rattle.std.proofs.Common.{◌≡◌, ℕ, zero, suc, ◌+◌, ◌^◌, ◌<◌, ◌≤◌, Bool, true, false, cond, List, [], ◌∷◌, length, take, drop, slice_index_or, Some, None, Option, refl, sym, ap, ◌∙◌, subst, arith}
+use Rattle.std.proofs.Common.{◌≡◌, ℕ, zero, suc, ◌+◌, ◌^◌, ◌<◌, ◌≤◌, Bool, true, false, cond, List, [], ◌∷◌, length, take, drop, slice_index_or, Some, refl, subst, arith}
 use Rattle.std.specs.List.{slice_get, prefix_len, AllByRecursion}
 use Rattle.std.proofs.lemmas.List.{length-take}
 use Rattle.std.proofs.lemmas.List.Sums.{prefix_len-le-length}
@@ -7,7 +7,7 @@ use Rattle.std.proofs.lemmas.Option.{none-some, same_Some, slice_get_within}
 use Rattle.linking.specs.declared.operation.Operation.{Operation}
 use Rattle.linking.specs.declared.operation.Operation.TheVariants.{Select}
 use Rattle.linking.specs.Programs.{Block, Program, no_block}
-use Rattle.linking.specs.Sound.{is_case, asks, leads, SoundOperation, Lands, Everywhere, Followed, SoundBlock, Sound}
+use Rattle.linking.specs.Sound.{is_case, leads, SoundOperation, Lands, Everywhere, Followed, SoundBlock, Sound}
 
 -- ---- what holds of all holds at a place
 all_or : {X : Type 0} (P : X → Type 0) (xs : List X) (n : ℕ) (d : X) → P d → AllByRecursion P xs → P (slice_index_or xs n d)

@@ -16,7 +16,7 @@ use Rattle.routines.specs.declared.item.Item.{Item}
 use Rattle.routines.specs.declared.routine.Passed.{Passed}
 use Rattle.routines.specs.declared.routine.Passed.TheVariants.{Sent, Received, Drained, Broken}
 use Rattle.routines.specs.declared.routine.State.{State}
-use Rattle.routines.specs.declared.routine.State.TheVariants.{Ready, Waiting, Released, Ended}
+use Rattle.routines.specs.declared.routine.State.TheVariants.{Waiting, Released, Ended}
 use Rattle.routines.specs.declared.routine.Routine.{Routine}
 use Rattle.routines.specs.Items.{code_of}
 use Rattle.routines.specs.Registers.{value_at, in_state, at_line, born, plain, landed}
