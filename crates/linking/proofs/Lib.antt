@@ -13,3 +13,4 @@ pub mod Runnable
 pub mod Placed
 pub mod LinksOnly
 pub mod Answered
+pub mod Places

@@ -1,5 +1,5 @@
--- The registers of a routine, and what plain lines do to them.
-use Rattle.std.specs.Prelude.{ℕ, ◌+◌, Bool, true, false, cond, ℤ, pos, negsuc, ◌+ℤ◌, ◌-ℤ◌, slice_index_or, slice_set}
+-- The registers of a routine, how it begins, and what plain lines do to it.
+use Rattle.std.specs.Prelude.{ℕ, ◌+◌, Bool, true, false, cond, ℤ, pos, negsuc, ◌+ℤ◌, ◌-ℤ◌, slice_index_or, slice_set, replicate}
 use Rattle.std.specs.Int.{int_wrap, w32}
 use Rattle.elements.specs.declared.value.Value.{Value as Number}
 use Rattle.elements.specs.declared.handle.Handle.{Handle as Holder}
@@ -11,6 +11,7 @@ use Rattle.linking.specs.declared.operation.Exchange.TheVariants.{Receive, Recei
 use Rattle.routines.specs.declared.routine.Passed.{Passed}
 use Rattle.routines.specs.declared.routine.Passed.TheVariants.{Received, Drained}
 use Rattle.routines.specs.declared.routine.State.{State}
+use Rattle.routines.specs.declared.routine.State.TheVariants.{Ready}
 use Rattle.routines.specs.declared.routine.Routine.{Routine}
 use Rattle.routines.specs.Items.{as_value, as_handle}
 
@@ -32,6 +33,15 @@ in_state s x = record x { state = s }
 abbrev pub at_line : ℕ → Routine → Routine
 at_line n x = record x { line = n }
 
+-- ---- how a routine begins
+abbrev pub first : ℕ → Routine
+first b = record { body = b; line = 0; state = Ready; values = replicate 8 value_zero; handles = replicate 4 nil_handle }
+
+-- one that is started by x has a copy of all registers
+abbrev pub born : ℕ → Routine → Routine
+born b x = record { body = b; line = 0; state = Ready; values = x.values; handles = x.handles }
+
+-- ---- plain lines
 -- sums and differences are those modulo 2^32
 abbrev pub plus : Number → Number → Number
 plus a b = record { number = int_wrap w32 (a.number +ℤ b.number) }

@@ -1,8 +1,11 @@
 // Routines: what a run keeps of each, and what its lines do to it alone.
 #![tactic(auto)]
 
+mod arithmetic;
 mod item;
+mod registers;
 mod routine;
 
+pub use arithmetic::{difference, sum};
 pub use item::Item;
 pub use routine::{Passed, Release, Routine, State};

@@ -1,6 +1,9 @@
-// A routine as data.
+// A routine as data, and how one begins.
+ghost use Rattle.std.specs.Prelude.{◌≡◌};
+ghost use Rattle.routines.specs.Registers.{first, born};
+
 use crate::item::Item;
-use elements::{Handle, Value};
+use elements::{Element, Handle, Value};
 
 // How a routine passes by a case that it was released with. Channels go by their number. Not a report's `Pass`: that has
 // the code of an element, and a default, by which nobody is released.
@@ -39,4 +42,32 @@ pub struct Routine {
     pub state: State,
     pub values: [Value; 8],
     pub handles: [Handle; 4],
+}
+
+impl Routine {
+    // The routine that a run begins with: ready at the first line of that body, its registers zero and nil.
+    pub fn first(body: usize) -> Routine
+        ensures { result ≡ first body }
+    {
+        Routine {
+            body,
+            line: 0,
+            state: State::Ready,
+            values: [Value::zero(); 8],
+            handles: [Handle::nil(); 4],
+        }
+    }
+
+    // A routine that this one starts: ready at the first line of that body, with a copy of all registers.
+    pub fn born(&self, body: usize) -> Routine
+        ensures { result ≡ born body self.now }
+    {
+        Routine {
+            body,
+            line: 0,
+            state: State::Ready,
+            values: self.values,
+            handles: self.handles,
+        }
+    }
 }

@@ -3,10 +3,9 @@ use Rattle.std.specs.Prelude.{ℕ, ◌+◌, Bool, true, false, List, [], ◌∷�
 use Rattle.std.specs.List.{slice_get}
 use Rattle.lines.specs.declared.line.Kind.{Kind}
 use Rattle.lines.specs.declared.line.Kind.TheVariants.{Value}
-use Rattle.elements.specs.Codes.{value_zero, nil_handle}
 use Rattle.linking.specs.declared.declared.Declared.{Declared}
 use Rattle.linking.specs.declared.operation.Operation.{Operation}
-use Rattle.linking.specs.Programs.{Block, Program}
+use Rattle.linking.specs.Programs.{Block, Program, no_block}
 use Rattle.waiting.specs.declared.wish.Entry.{Entry}
 use Rattle.waiting.specs.declared.wish.Side.{Side}
 use Rattle.waiting.specs.Queues.{Row, queue, without, written}
@@ -15,7 +14,7 @@ use Rattle.routines.specs.declared.routine.Release.{Release}
 use Rattle.routines.specs.declared.routine.State.{State}
 use Rattle.routines.specs.declared.routine.State.TheVariants.{Ready, Waiting, Released, Ended}
 use Rattle.routines.specs.declared.routine.Routine.{Routine}
-use Rattle.routines.specs.Registers.{in_state}
+use Rattle.routines.specs.Registers.{in_state, first}
 
 -- a channel: its buffer is a list, the oldest element first
 pub record Channel : Type 0 where
@@ -60,9 +59,6 @@ abbrev pub queued : Hub → Side → ℕ → List (Entry Item)
 queued h side c = queue side c h.line h.wishes
 
 -- ---- where a routine stands
-abbrev pub no_block : Block
-no_block = record { line = 0; operations = [] }
-
 abbrev pub block_of : Program → Routine → Block
 block_of p x = slice_index_or p.bodies x.body no_block
 
@@ -129,7 +125,7 @@ living run = count_by (λ x. lives x.state) run.routines
 
 -- ---- the start: routine 0 at the first line of `main`, all channels open and empty
 abbrev pub first_routine : Program → Routine
-first_routine p = record { body = p.main; line = 0; state = Ready; values = replicate 8 value_zero; handles = replicate 4 nil_handle }
+first_routine p = first p.main
 
 abbrev pub new_channel : Declared → Channel
 new_channel d = record { kind = d.kind; capacity = d.capacity; closed = false; buffer = [] }

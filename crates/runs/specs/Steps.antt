@@ -16,10 +16,10 @@ use Rattle.routines.specs.declared.item.Item.{Item}
 use Rattle.routines.specs.declared.routine.Passed.{Passed}
 use Rattle.routines.specs.declared.routine.Passed.TheVariants.{Sent, Received, Drained, Broken}
 use Rattle.routines.specs.declared.routine.State.{State}
-use Rattle.routines.specs.declared.routine.State.TheVariants.{Ready, Waiting, Released, Ended}
+use Rattle.routines.specs.declared.routine.State.TheVariants.{Waiting, Released, Ended}
 use Rattle.routines.specs.declared.routine.Routine.{Routine}
 use Rattle.routines.specs.Items.{code_of}
-use Rattle.routines.specs.Registers.{value_at, in_state, at_line, plain, landed}
+use Rattle.routines.specs.Registers.{value_at, in_state, at_line, born, plain, landed}
 use Rattle.reports.specs.declared.report.Panic.{Panic}
 use Rattle.reports.specs.declared.report.Panic.TheVariants.{ClosedSend, ClosedTwice, NilClose, Crowded}
 use Rattle.reports.specs.declared.report.Pass.{Pass}
@@ -171,10 +171,7 @@ abbrev pub closing : Run → Meaning → ℕ → ℕ → Routine → Option ℕ 
 closing run m r p x None = panic r p NilClose run m
 closing run m r p x (Some c) = close_channel run m r p x c (channel run.hub c).closed
 
--- a routine that is started has a copy of all registers; a run starts 64 routines at most
-abbrev pub born : ℕ → Routine → Routine
-born b x = record { body = b; line = 0; state = Ready; values = x.values; handles = x.handles }
-
+-- a run starts 64 routines at most
 abbrev pub with_born : {H : Type 0} → ℕ → Routine → Parts H → Parts H
 with_born b x run = record run { routines = run.routines ++ (born b x ∷ []); turns = run.turns ++ (length run.routines ∷ []) }
 
