@@ -1,5 +1,5 @@
 #!/usr/bin/env python3
-"""Shows that a misuse does not compile: makes one edit in a copy of the repository and runs the check, which must
+"""Shows that misuses do not compile: makes each edit in a copy of the repository and runs the check, which must
 stop at the edited line with the compiler's error for the use of a moved value. The gate's own must-fail edits have
 to reach the prover, and these do not get that far. Last line: 'N refused, M compiled'; a check that stops for another
 reason counts as neither, and ends the run."""
@@ -8,8 +8,12 @@ import os, shutil, subprocess, sys, tempfile
 MISUSES = [
     # what, crate, file, old text, new text, the compiler's error
     ('an empty script after it was read', 'relist', 'src/main.rt',
-     'Err(refused) => println!(rt; "{}", refused.fault),',
-     'Err(refused) => { let _again = empty.read(&text); println!(rt; "{}", refused.fault) }',
+     'let script = read_exactly(empty, text).map_err(|unread| unread.fault)?;',
+     'let script = read_exactly(empty, text).map_err(|unread| unread.fault)?; let _again = empty.read(text);',
+     'borrow-e0382'),
+    ('linking the same read script twice', 'relist', 'src/main.rt',
+     'link(script, rt.alloc()).map_err(|unlinked| unlinked.stop)',
+     'let _before = link(script, rt.alloc()); link(script, rt.alloc()).map_err(|unlinked| unlinked.stop)',
      'borrow-e0382'),
 ]
 top = os.path.join(os.path.dirname(os.path.abspath(__file__)), '..')

@@ -1,14 +1,16 @@
-// Reads many texts, one after another, and prints what comes of each: the boundaries of every rule.
+// Reads and links many texts, one after another, and prints what comes of each: the boundaries of every rule.
 // Standard input has for each a line `title length` and then that many bytes.
 // A refused text prints `title: NO n l`, and one that is listed back byte for byte `title: same`.
 #![tactic(auto)]
 
 ghost use Rattle.std.specs.Prelude.{◌<◌, length, IfSome};
 
+use linking::{Linked, Stop, link};
 use script::Empty;
 use script_laws::read_exactly;
+use std::alloc::AllocError;
 use std::io;
-use std::io::{Read as Input, Write};
+use std::io::{Read, Write};
 use words::{Word, cut, next_word};
 
 // The number after the title, and the bytes after the line.
@@ -33,12 +35,19 @@ fn text_of(input: &[u8]) -> Option<(&[u8], &[u8])>
     body.split_at_checked(len)
 }
 
+// The script that the text is, linked.
+fn linked(rt: &HostRuntime, text: &[u8]) -> Result<Linked, Stop> {
+    let empty = Empty::new(rt.alloc())?;
+    let script = read_exactly(empty, text).map_err(|unread| unread.fault)?;
+    link(script, rt.alloc()).map_err(|unlinked| unlinked.stop)
+}
+
 // What comes of one text.
 fn print_outcome(rt: &HostRuntime, text: &[u8]) -> io::Result<()> {
-    let empty = Empty::new(rt.alloc())?;
-    let script = match read_exactly(empty, text) {
+    let script = match linked(rt, text) {
         Ok(script) => script,
-        Err(refused) => return println!(rt; ": {}", refused.fault),
+        Err(Stop::Faulty(fault)) => return println!(rt; ": {}", fault),
+        Err(Stop::Memory) => return Err(AllocError.into()),
     };
     let mut out = vec![in rt.alloc(); 0u8; text.len()]?;
     match script.list(&mut out) {

@@ -1,11 +1,12 @@
-// Reads a script on standard input and prints its listing, or `NO n l` where the text is refused.
+// Reads a script on standard input, links it and prints its listing, or `NO n l` where it is refused.
 #![tactic(auto)]
 
-use script::{Empty, Read};
+use linking::{Linked, Stop, link};
+use script::Empty;
 use script_laws::read_exactly;
+use std::alloc::AllocError;
 use std::io;
-use std::io::{Read as Input, Write};
-use words::Fault;
+use std::io::{Read, Write};
 
 // Standard input, as far as one byte past the longest script.
 fn input(rt: &HostRuntime) -> io::Result<Vec<u8>> {
@@ -14,7 +15,14 @@ fn input(rt: &HostRuntime) -> io::Result<Vec<u8>> {
     Ok(text)
 }
 
-fn print_listing(rt: &HostRuntime, script: &Read, room: usize) -> io::Result<()> {
+// The script that the text is, linked.
+fn linked(rt: &HostRuntime, text: &[u8]) -> Result<Linked, Stop> {
+    let empty = Empty::new(rt.alloc())?;
+    let script = read_exactly(empty, text).map_err(|unread| unread.fault)?;
+    link(script, rt.alloc()).map_err(|unlinked| unlinked.stop)
+}
+
+fn print_listing(rt: &HostRuntime, script: &Linked, room: usize) -> io::Result<()> {
     let mut out = vec![in rt.alloc(); 0u8; room]?;
     match script.list(&mut out) {
         Ok(len) => rt.stdout().write_all(&out[0..len]),
@@ -24,9 +32,9 @@ fn print_listing(rt: &HostRuntime, script: &Read, room: usize) -> io::Result<()>
 
 fn main(rt: HostRuntime) -> io::Result<()> {
     let text = input(&rt)?;
-    let empty = Empty::new(rt.alloc())?;
-    match read_exactly(empty, &text) {
+    match linked(&rt, &text) {
         Ok(script) => print_listing(&rt, &script, text.len()),
-        Err(refused) => println!(rt; "{}", refused.fault),
+        Err(Stop::Faulty(fault)) => println!(rt; "{}", fault),
+        Err(Stop::Memory) => Err(AllocError.into()),
     }
 }
