@@ -61,11 +61,11 @@ pub room_for_turn : (n w : ℕ) (turns line : List ℕ) → 1 ≤ times w line �
 room_for_turn n w turns line there o = omega (arith, o.few, o.count, times_length w line)
 
 -- ---- who stands in a queue waits
-all_append : {A : Type 0} (P : A → Type 0) (xs ys : List A) → AllByRecursion P xs → AllByRecursion P ys → AllByRecursion P (xs ++ ys)
+pub all_append : {A : Type 0} (P : A → Type 0) (xs ys : List A) → AllByRecursion P xs → AllByRecursion P ys → AllByRecursion P (xs ++ ys)
 all_append P [] ys h k = k
 all_append P (x ∷ xs) ys h k = (h.0, all_append P xs ys h.1 k)
 
-all_first : {A : Type 0} (P : A → Type 0) (xs : List A) (x : A) → AllByRecursion P xs → first xs ≡ Some x → P x
+pub all_first : {A : Type 0} (P : A → Type 0) (xs : List A) (x : A) → AllByRecursion P xs → first xs ≡ Some x → P x
 all_first P [] x h e = cc
 all_first P (y ∷ xs) x h e = let q : y ≡ x = cc in subst P q h.0
 
@@ -103,14 +103,14 @@ abbrev pub names : {X : Type 0} → List (Entry X) → List ℕ
 names es = map (λ e. e.routine) es
 
 module _ {X : Type 0} (c : ℕ) (table : List (Row X)) where
-  both_wait : (line : List ℕ) (e : Entry X) → first (both c line table) ≡ Some e → 1 ≤ times e.routine line
+  pub both_wait : (line : List ℕ) (e : Entry X) → first (both c line table) ≡ Some e → 1 ≤ times e.routine line
   both_wait line e h =
       all_first (λ (f : Entry X). 1 ≤ times f.routine line) (both c line table) e
       (all_append (λ (f : Entry X). 1 ≤ times f.routine line) (queue Receivers c line table) (queue Senders c line table)
       (of_queue Receivers c (λ q. 1 ≤ times q line) line table (λ q l. l)) (of_queue Senders c (λ q. 1 ≤ times q line) line table (λ q l. l)))
       h
 
-  freed_counts : (es : List (Entry X)) (line : List ℕ) → freed c line table ≡ es → (q : ℕ) → times q (names es) + times q (without_all es line) ≤ times q line
+  pub freed_counts : (es : List (Entry X)) (line : List ℕ) → freed c line table ≡ es → (q : ℕ) → times q (names es) + times q (without_all es line) ≤ times q line
   freed_counts [] line h q = omega arith
   freed_counts (e ∷ es) line h q =
       let front : first (both c line table) ≡ Some e = sym (first_freed c line table) ∙ ap first h in

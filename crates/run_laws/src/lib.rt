@@ -3,4 +3,4 @@
 
 mod laws;
 
-pub use laws::runs_stay_orderly;
+pub use laws::{runs_stay_orderly, runs_stay_settled};
