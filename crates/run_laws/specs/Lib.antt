@@ -1,0 +1,4 @@
+-- The statements.
+pub mod Orderly
+pub mod Settled
+pub mod Waits
