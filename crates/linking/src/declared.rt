@@ -16,7 +16,7 @@ pub struct Declared {
 #[derive(Clone, Copy)]
 pub struct Channel {
     pub(crate) name: Name,
-    pub(crate) declared: Declared,
+    pub declared: Declared,
 }
 
 impl Named for Channel {

@@ -12,7 +12,7 @@ mod symbols;
 mod tables;
 mod targets;
 
-pub use declared::Declared;
+pub use declared::{Channel, Declared};
 pub use linked::{Linked, Unlinked};
 pub use linking::link;
 pub use operation::{Exchange, Operation};

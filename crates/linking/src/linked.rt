@@ -1,6 +1,8 @@
 // The linked state of a script, and what linking answers where it refuses.
+ghost use Rattle.std.specs.Prelude.{◌≡◌, map};
 ghost use Rattle.linking.specs.Sound.{Sound};
 
+use crate::declared::Channel;
 use crate::stop::Stop;
 use crate::tables::Tables;
 use script::Read;
@@ -12,6 +14,15 @@ pub struct Linked {
     pub(crate) script: Read,
     pub(crate) program: Tables,
     ghost sound: { ∥ Sound program ∥₁ },
+}
+
+impl Linked {
+    // The channels of the script by their numbers.
+    pub fn channels(&self) -> &[Channel]
+        ensures { map (λ c. c.declared) result.now ≡ self.now.program.channels }
+    {
+        &self.program.channels
+    }
 }
 
 // A refused linking: the script as it was, and why.

@@ -1,6 +1,7 @@
 // Routines: what a run keeps of each, and what its lines do to it alone.
 #![tactic(auto)]
 
+mod carries;
 mod item;
 mod routine;
 
