@@ -1,16 +1,17 @@
--- What a taken case and a close leave in memory.
-use Rattle.std.specs.Prelude.{ℕ, Bool, true, false, cond, ◌&&◌, List, [], ◌∷◌, length, Some, None, Option, nat_lt, slice_index_or, slice_set}
+-- What a taken case, a join and a close leave in memory.
+use Rattle.std.specs.Prelude.{ℕ, Bool, false, ◌&&◌, List, [], ◌∷◌, ◌++◌, length, Some, None, Option, nat_lt, slice_index_or, slice_set}
 use Rattle.lines.specs.declared.line.Kind.TheVariants.{Value as ValueKind}
 use Rattle.elements.specs.declared.value.Value.{Value as Number}
 use Rattle.elements.specs.declared.handle.Handle.{Handle as Holder}
 use Rattle.rings.specs.Layouts.{Layout, fresh, next_cell, one_more, one_less}
 use Rattle.waiting.specs.declared.wish.Wish.{Wish}
 use Rattle.waiting.specs.declared.wish.Wish.TheVariants.{Send, Receive}
+use Rattle.waiting.specs.Queues.{Row, written}
 use Rattle.channels.specs.Seen.{shut}
 use Rattle.routines.specs.declared.item.Item.{Item}
 use Rattle.routines.specs.declared.item.Item.TheVariants.{Value, Handle}
 use Rattle.runs.specs.Cases.{can_go}
-use Rattle.runs.specs.Taking.{Deal, take, leaving, closed_at}
+use Rattle.runs.specs.Taking.{Deal, take, closed_at}
 use Rattle.hub.specs.declared.port.Port.{Port}
 use Rattle.hub.specs.declared.hub.Deal.{Deal as Answer}
 use Rattle.hub.specs.Boards.{Board, seen, enough}
@@ -72,6 +73,10 @@ answer d = record { passed = d.passed; released = d.released }
 
 abbrev pub board_after : Deal → Board → Board
 board_after d b = record { ports = stored_in d.stored (drawn_from d.drawn b.ports); line = d.hub.line; wishes = d.hub.wishes }
+
+-- ---- a routine joins
+abbrev pub board_joined : ℕ → Row Item → Board → Board
+board_joined r ws b = record b { line = b.line ++ (r ∷ []); wishes = written r ws b.wishes }
 
 -- ---- a channel is closed
 abbrev pub shut_in : ℕ → List Port → List Port
