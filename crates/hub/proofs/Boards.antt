@@ -91,7 +91,7 @@ behind c v h p ps n d k l same =
     let b = rw same at r in
     omega (arith, b, k.1, past_base p.kind v h p.channel.ring.capacity)
 
-apart : (c v h : ℕ) (ps : List Port) (m n : ℕ) (d : Port) → Placed c v h ps → m < length ps → n < length ps → (m ≡ n → ⊥) → (get_or ps m d).kind ≡ (get_or ps n d).kind
+pub apart : (c v h : ℕ) (ps : List Port) (m n : ℕ) (d : Port) → Placed c v h ps → m < length ps → n < length ps → (m ≡ n → ⊥) → (get_or ps m d).kind ≡ (get_or ps n d).kind
     → Apart (get_or ps m d).channel.ring (get_or ps n d).channel.ring
 apart c v h [] m n d k l j ne same = absurd (omega arith)
 apart c v h (p ∷ ps) zero zero d k l j ne same = absurd (ne refl)
@@ -145,7 +145,7 @@ written_alone HandleKind ValueKind l m e vs hs a fits enough room = refl
 written_alone HandleKind HandleKind l m e vs hs a fits enough room = ap (map Handle) (left l m hs (as_handle e) (a refl) (omega (arith, enough.handles)) room)
 
 -- ---- a channel buffers as many elements as its ring counts
-length_buffered : (k : Kind) (l : Layout) (vs : List Number) (hs : List Holder) → Sound l → l.base + l.capacity ≤ cells_of k → Enough vs hs → length (buffered k l vs hs) ≡ l.count
+pub length_buffered : (k : Kind) (l : Layout) (vs : List Number) (hs : List Holder) → Sound l → l.base + l.capacity ≤ cells_of k → Enough vs hs → length (buffered k l vs hs) ≡ l.count
 length_buffered ValueKind l vs hs s f e = length-map (held l vs) Value ∙ length_held l vs (omega (arith, e.values)) s.within s.counted
 length_buffered HandleKind l vs hs s f e = length-map (held l hs) Handle ∙ length_held l hs (omega (arith, e.handles)) s.within s.counted
 

@@ -1,1 +1,4 @@
 pub mod Boards
+pub mod Places
+pub mod Sends
+pub mod Receives

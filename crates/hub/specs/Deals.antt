@@ -1,5 +1,5 @@
 -- What a taken case, a join and a close leave in memory.
-use Rattle.std.specs.Prelude.{ℕ, Bool, false, ◌&&◌, List, [], ◌∷◌, ◌++◌, length, Some, None, Option, nat_lt, slice_index_or, slice_set}
+use Rattle.std.specs.Prelude.{◌≡◌, ℕ, Bool, false, cond, ◌&&◌, List, [], ◌∷◌, ◌++◌, length, Some, None, Option, nat_lt, slice_index_or, slice_set}
 use Rattle.lines.specs.declared.line.Kind.TheVariants.{Value as ValueKind}
 use Rattle.elements.specs.declared.value.Value.{Value as Number}
 use Rattle.elements.specs.declared.handle.Handle.{Handle as Holder}
@@ -13,8 +13,8 @@ use Rattle.routines.specs.declared.item.Item.TheVariants.{Value, Handle}
 use Rattle.runs.specs.Cases.{can_go}
 use Rattle.runs.specs.Taking.{Deal, take, closed_at}
 use Rattle.hub.specs.declared.port.Port.{Port}
-use Rattle.hub.specs.declared.hub.Deal.{Deal as Answer}
-use Rattle.hub.specs.Boards.{Board, seen, enough}
+use Rattle.hub.specs.declared.deal.Deal.{Deal as Answer}
+use Rattle.hub.specs.Boards.{Board, seen, enough, Placed}
 
 -- ---- one channel in memory
 abbrev pub no_port : Port
@@ -73,6 +73,15 @@ answer d = record { passed = d.passed; released = d.released }
 
 abbrev pub board_after : Deal → Board → Board
 board_after d b = record { ports = stored_in d.stored (drawn_from d.drawn b.ports); line = d.hub.line; wishes = d.hub.wishes }
+
+-- what is left of a board and the cells where t says whether a case may be taken, and d is its deal
+pub record Took (t : Bool) (d : Deal) (b : Board) (vs : List Number) (hs : List Holder) (a : Option Answer) (after : Board) (us : List Number) (gs : List Holder) : Type 0 where
+  pub answered : a ≡ cond t (Some (answer d)) None
+  pub board : after ≡ cond t (board_after d b) b
+  pub values : us ≡ cond t (values_after b.ports d.drawn d.stored vs) vs
+  pub handles : gs ≡ cond t (handles_after b.ports d.drawn d.stored hs) hs
+  pub seen : seen after us gs ≡ cond t d.hub (seen b vs hs)
+  pub placed : Placed 0 0 0 after.ports
 
 -- ---- a routine joins
 abbrev pub board_joined : ℕ → Row Item → Board → Board

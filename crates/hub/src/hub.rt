@@ -13,7 +13,7 @@ ghost use Rattle.hub.specs.Deals.{port, board_joined};
 
 use crate::port::Port;
 use lines::Kind;
-use routines::{Item, Passed, Release};
+use routines::Item;
 use std::marker::Model;
 use waiting::{Queue, Side, Waiting, Wish};
 
@@ -32,13 +32,6 @@ impl Model for Hub {
     ghost view = { λ h. record { ports = h.ports.items; line = h.waiting.line; wishes = h.waiting.table } };
 
     ghost invariant = { λ h. Placed 0 0 0 h.ports.items };
-}
-
-// What taking a case does to routines: how its own passes by it, and who is released and how.
-#[derive(Clone, Copy)]
-pub struct Deal {
-    pub passed: Passed,
-    pub released: Option<Release>,
 }
 
 impl Hub {
