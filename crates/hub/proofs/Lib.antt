@@ -2,3 +2,4 @@ pub mod Boards
 pub mod Places
 pub mod Sends
 pub mod Receives
+pub mod Closes
