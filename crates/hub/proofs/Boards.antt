@@ -3,6 +3,7 @@ use Rattle.std.proofs.Common.{◌≡◌, ℕ, zero, suc, ap₂, subst, ◌+◌, 
 use Rattle.std.proofs.Math.Bool.{or_assoc}
 use Rattle.std.proofs.Math.ListN.{get_or-map}
 use Rattle.std.proofs.lemmas.List.{get_or_past, length-map}
+use Rattle.std.proofs.lemmas.List.Sums.{sum_by-cons}
 use Rattle.std.proofs.lemmas.Bool.{cases_lt}
 use Rattle.std.proofs.lemmas.Bool.Decides.{nat_tests}
 use Rattle.lines.specs.declared.line.Kind.{Kind}
@@ -25,7 +26,7 @@ use Rattle.hub.specs.declared.port.Port.{Port}
 use Rattle.routines.specs.declared.item.Item.{Item}
 use Rattle.routines.specs.declared.item.Item.TheVariants.{Value, Handle}
 use Rattle.routines.specs.Items.{as_value, as_handle, as_kind}
-use Rattle.hub.specs.Boards.{Board, Enough, buffered, has_room, has_some, seen_port, seen, base_for, declared, Placed}
+use Rattle.hub.specs.Boards.{cells, cells_of, Board, Enough, buffered, has_room, has_some, seen_port, seen, base_for, declared, Placed}
 use Rattle.hub.specs.Deals.{no_port, port, value_written, handle_written}
 
 -- ---- a channel of what a board stands for
@@ -37,10 +38,6 @@ pub channel_seen : (vs : List Number) (hs : List Holder) (b : Board) (c : ℕ) �
 channel_seen vs hs b c = rw (← seen_none vs hs) (get_or-map (seen_port vs hs) b.ports c no_port)
 
 -- ---- where each channel lies
-abbrev pub cells_of : Kind → ℕ
-cells_of ValueKind = 512
-cells_of HandleKind = 128
-
 -- the channel at place n: its number is its place, and there are cells for it
 pub record Stands (n : ℕ) (p : Port) : Type 0 where
   pub number : p.channel.number ≡ n
@@ -176,3 +173,16 @@ receive_goes vs hs b c k n = rw (some_counted (channel (seen b vs hs) c).buffer,
 
 pub few_channels : (b : Board) → Placed 0 0 0 b.ports → length b.ports ≤ 32
 few_channels b k = let e = ends 0 0 0 b.ports k in omega arith
+
+-- ---- all channels of a kind have no more cells than there are
+total : (c v h : ℕ) (ps : List Port) → Placed c v h ps → (v + cells ValueKind ps ≤ 512) × (h + cells HandleKind ps ≤ 128)
+total c v h [] k = (omega arith, omega arith)
+total c v h (p ∷ ps) k =
+    let r = total (c + 1) (v + cells_for ValueKind (declared p)) (h + cells_for HandleKind (declared p)) ps k.3 in
+    let m = sum_by-cons (λ (q : Port). cells_for ValueKind (declared q)) p ps in
+    let n = sum_by-cons (λ (q : Port). cells_for HandleKind (declared q)) p ps in
+    (omega arith, omega arith)
+
+pub cells_fit : (k : Kind) (ps : List Port) → Placed 0 0 0 ps → cells k ps ≤ cells_of k
+cells_fit ValueKind ps h = let t = total 0 0 0 ps h in omega arith
+cells_fit HandleKind ps h = let t = total 0 0 0 ps h in omega arith

@@ -14,10 +14,10 @@ use Rattle.routines.specs.declared.item.Item.{Item}
 use Rattle.routines.specs.Items.{as_kind}
 use Rattle.runs.specs.Runs.{with_buffer}
 use Rattle.hub.specs.declared.port.Port.{Port}
-use Rattle.hub.specs.Boards.{Board, Enough, buffered, seen_port, seen, Placed}
+use Rattle.hub.specs.Boards.{cells_of, Board, Enough, buffered, seen_port, seen, Placed}
 use Rattle.hub.specs.Ports.{there}
 use Rattle.hub.specs.Deals.{no_port, port, value_written, handle_written}
-use Rattle.hub.proofs.Boards.{cells_of, Stands, stands, placed_set, seen_set, apart, written_alone, channel_seen}
+use Rattle.hub.proofs.Boards.{Stands, stands, placed_set, seen_set, apart, written_alone, channel_seen}
 
 pub covered : (k : Kind) (l : Layout) (vs : List Number) (hs : List Holder) → l.base + l.capacity ≤ cells_of k → Enough vs hs → there k l vs hs ≡ true
 covered ValueKind l vs hs f e = let m = e.values in grind (arith, nat_tests)

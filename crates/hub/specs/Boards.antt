@@ -1,5 +1,5 @@
 -- What memory keeps of the channels of a run, and what it stands for with the cells of both kinds.
-use Rattle.std.specs.Prelude.{◌≡◌, ℕ, ◌+◌, ◌≤◌, Bool, false, List, [], ◌∷◌, map, length, replicate, ◌&&◌, ◌||◌, nat_le, nat_lt}
+use Rattle.std.specs.Prelude.{sum_by, ◌≡◌, ℕ, ◌+◌, ◌≤◌, Bool, false, List, [], ◌∷◌, map, length, replicate, ◌&&◌, ◌||◌, nat_le, nat_lt}
 use Rattle.lines.specs.declared.line.Kind.{Kind}
 use Rattle.lines.specs.declared.line.Kind.TheVariants.{Value as ValueKind, Handle as HandleKind}
 use Rattle.elements.specs.declared.value.Value.{Value as Number}
@@ -27,6 +27,10 @@ pub record Enough (vs : List Number) (hs : List Holder) : Type 0 where
 
 abbrev pub enough : List Number → List Holder → Bool
 enough vs hs = nat_le 512 (length vs) && nat_le 128 (length hs)
+
+abbrev pub cells_of : Kind → ℕ
+cells_of ValueKind = 512
+cells_of HandleKind = 128
 
 -- ---- what it stands for: each buffer is read from the cells of its kind, oldest first
 abbrev pub buffered : Kind → Layout → List Number → List Holder → List Item
@@ -67,6 +71,10 @@ new_board ds = record { ports = laid 0 0 0 ds; line = []; wishes = replicate 64 
 -- ones, and all of a kind together have no more than there are
 abbrev pub declared : Port → Declared
 declared p = record { kind = p.kind; capacity = p.channel.ring.capacity }
+
+-- how many cells of kind k the channels have together
+abbrev pub cells : Kind → List Port → ℕ
+cells k ps = sum_by (λ p. cells_for k (declared p)) ps
 
 abbrev pub Placed : ℕ → ℕ → ℕ → List Port → Type 0
 Placed c v h [] = (c ≤ 32) × (v ≤ 512) × (h ≤ 128)

@@ -3,7 +3,8 @@ ghost use Rattle.std.specs.Prelude.{◌≡◌};
 ghost use Rattle.routines.specs.Items.{as_kind};
 ghost use Rattle.channels.specs.Rules.{sent, after_sent, line_sent, laid_sent};
 ghost use Rattle.channels.specs.Receives.{got, after_got, line_got, laid_got};
-ghost use Rattle.hub.specs.Boards.{buffered, has_room as room, has_some as element};
+ghost use Rattle.linking.specs.Sound.{cells_for};
+ghost use Rattle.hub.specs.Boards.{buffered, declared, has_room as room, has_some as element};
 ghost use Rattle.hub.specs.Ports.{seen_in, zero_of, values_sent, handles_sent, values_got, handles_got};
 
 use crate::item::items;
@@ -32,6 +33,17 @@ impl Port {
         ensures { result ≡ element self.now.channel }
     {
         self.channel.is_closed() || self.channel.count() > 0
+    }
+
+    // How many cells of that kind it has.
+    pub(crate) fn cells(&self, kind: Kind) -> usize
+        ensures { result ≡ cells_for kind (declared self.now) }
+    {
+        if self.kind == kind {
+            self.channel.capacity()
+        } else {
+            0
+        }
     }
 
     // Takes a send of an element of its kind.
