@@ -3,3 +3,4 @@ pub mod Places
 pub mod Sends
 pub mod Receives
 pub mod Closes
+pub mod Laid

@@ -23,7 +23,6 @@ pub covered : (k : Kind) (l : Layout) (vs : List Number) (hs : List Holder) → 
 covered ValueKind l vs hs f e = let m = e.values in grind (arith, nat_tests)
 covered HandleKind l vs hs f e = let m = e.handles in grind (arith, nat_tests)
 
-
 -- channel c of a board, which is there
 module _ (vs : List Number) (hs : List Holder) (b : Board) (c : ℕ) (k : Placed 0 0 0 b.ports) (n : Enough vs hs) (i : c < length b.ports) where
   abbrev pub here : Port

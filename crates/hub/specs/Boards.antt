@@ -64,6 +64,11 @@ abbrev pub laid : ℕ → ℕ → ℕ → List Declared → List Port
 laid c v h [] = []
 laid c v h (d ∷ ds) = new_port c v h d ∷ laid (c + 1) (v + cells_for ValueKind d) (h + cells_for HandleKind d) ds
 
+-- whether all of them lie in the cells that there are
+abbrev pub can_be_laid : ℕ → ℕ → ℕ → List Declared → Bool
+can_be_laid c v h [] = nat_le c 32 && (nat_le v 512 && nat_le h 128)
+can_be_laid c v h (d ∷ ds) = nat_le d.capacity 64 && can_be_laid (c + 1) (v + cells_for ValueKind d) (h + cells_for HandleKind d) ds
+
 abbrev pub new_board : List Declared → Board
 new_board ds = record { ports = laid 0 0 0 ds; line = []; wishes = replicate 64 [] }
 

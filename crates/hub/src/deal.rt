@@ -5,7 +5,7 @@ ghost use Rattle.routines.specs.declared.routine.Passed.TheVariants.{Sent as Pas
 ghost use Rattle.runs.specs.Taking.{offer, released_by};
 ghost use Rattle.hub.specs.Ports.{sent_answer, got_answer};
 
-use channels::{Received, ReceiveError, SendError, Sent};
+use channels::{ReceiveError, Received, SendError, Sent};
 use elements::{Element, Value};
 use lines::Kind;
 use routines::{Item, Passed, Release};
@@ -43,16 +43,15 @@ fn offer(wish: Wish<Item>) -> Item
 fn sender_released(kind: Kind, number: u8, sender: Entry<Item>) -> Release
     ensures { result ≡ released_by sender (Passes number (as_kind kind (offer sender.wish))) }
 {
-    released_by(sender, Passed::Sent(number, offer(sender.wish).of_kind(kind)))
+    released_by(
+        sender,
+        Passed::Sent(number, offer(sender.wish).of_kind(kind)),
+    )
 }
 
 impl Deal {
     // A send of that element on the channel of that number; None where it cannot go.
-    pub(crate) fn of_send(
-        number: u8,
-        e: Item,
-        sent: Result<Sent<Item>, SendError>,
-    ) -> Option<Deal>
+    pub(crate) fn of_send(number: u8, e: Item, sent: Result<Sent<Item>, SendError>) -> Option<Deal>
         ensures { result ≡ sent_answer number e sent }
     {
         let (passed, released) = match sent {

@@ -62,7 +62,9 @@ impl Hub {
         ensures is { result ≡ (port self.now.ports number).channel.closed }
         ensures seen { (vs : List Number) (hs : List Holder) → result ≡ (channel (seen self.now vs hs) number).closed }
     {
-        self.ports.get(number).is_some_and(|port| port.channel.is_closed())
+        self.ports
+            .get(number)
+            .is_some_and(|port| port.channel.is_closed())
     }
 
     // Whether that channel is closed or buffers less than its capacity.
@@ -70,7 +72,9 @@ impl Hub {
         ensures is { result ≡ room (port self.now.ports number).channel }
         ensures placed { Placed 0 0 0 self.now.ports }
     {
-        self.ports.get(usize::from(number)).is_some_and(|port| port.has_room())
+        self.ports
+            .get(usize::from(number))
+            .is_some_and(|port| port.has_room())
     }
 
     // Whether that channel is closed or buffers an element.
@@ -78,7 +82,9 @@ impl Hub {
         ensures is { result ≡ element (port self.now.ports number).channel }
         ensures placed { Placed 0 0 0 self.now.ports }
     {
-        self.ports.get(usize::from(number)).is_some_and(|port| port.has_some())
+        self.ports
+            .get(usize::from(number))
+            .is_some_and(|port| port.has_some())
     }
 
     // Whether somebody waits at that channel, on that side.
@@ -95,8 +101,10 @@ impl Hub {
     {
         match wish {
             None => false,
-            Some(Wish::Send(number, _)) => self.has_room(number) || self.someone_waits(Side::Receivers, number),
-            Some(Wish::Receive(number)) => self.has_some(number) || self.someone_waits(Side::Senders, number),
+            Some(Wish::Send(number, _)) => self.has_room(number)
+                || self.someone_waits(Side::Receivers, number),
+            Some(Wish::Receive(number)) => self.has_some(number)
+                || self.someone_waits(Side::Senders, number),
         }
     }
 

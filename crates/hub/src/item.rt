@@ -4,7 +4,7 @@ ghost use Rattle.routines.specs.declared.item.Item.{Item};
 ghost use Rattle.routines.specs.declared.item.Item.TheVariants.{Value as OfValue, Handle as OfHandle};
 ghost use Rattle.hub.specs.Ports.{as_item};
 
-use channels::{Received, ReceiveError};
+use channels::{ReceiveError, Received};
 use elements::{Handle, Value};
 use routines::Item;
 

@@ -6,6 +6,7 @@ mod closing;
 mod deal;
 mod hub;
 mod item;
+mod making;
 mod port;
 mod taking;
 

@@ -1,16 +1,17 @@
 // A channel of either kind.
-ghost use Rattle.std.specs.Prelude.{◌≡◌};
+ghost use Rattle.std.specs.Prelude.{◌≡◌, ◌≤◌};
 ghost use Rattle.routines.specs.Items.{as_kind};
 ghost use Rattle.channels.specs.Rules.{sent, after_sent, line_sent, laid_sent};
 ghost use Rattle.channels.specs.Receives.{got, after_got, line_got, laid_got};
 ghost use Rattle.linking.specs.Sound.{cells_for};
-ghost use Rattle.hub.specs.Boards.{buffered, declared, has_room as room, has_some as element};
+ghost use Rattle.hub.specs.Boards.{base_for as first_cell, new_port, buffered, declared, has_room as room, has_some as element};
 ghost use Rattle.hub.specs.Ports.{seen_in, zero_of, values_sent, handles_sent, values_got, handles_got};
 
 use crate::item::items;
-use channels::{Channel, Received, ReceiveError, SendError, Sent};
+use channels::{Channel, ReceiveError, Received, SendError, Sent};
 use elements::{Handle, Value};
 use lines::Kind;
+use linking::Declared;
 use routines::Item;
 use waiting::Waiting;
 
@@ -20,7 +21,31 @@ pub struct Port {
     pub(crate) channel: Channel,
 }
 
+// Where the cells of a channel of that kind begin, the earlier ones having so many cells of each kind.
+fn base_for(kind: Kind, values: usize, handles: usize) -> usize
+    ensures { result ≡ first_cell kind values handles }
+{
+    match kind {
+        Kind::Value => values,
+        Kind::Handle => handles,
+    }
+}
+
 impl Port {
+    // A new channel, open and empty, behind earlier ones that have so many cells of each kind.
+    #[tactic(auto, using(crate::proofs::Laid::room_for))]
+    pub(crate) fn new(number: u8, values: usize, handles: usize, declared: Declared) -> Port
+        requires small { declared.capacity ≤ 64 }
+        requires values { values ≤ 512 }
+        requires handles { handles ≤ 128 }
+        ensures { result ≡ new_port number values handles declared }
+    {
+        let Declared { kind, capacity } = declared;
+        let base = base_for(kind, values, handles);
+        let channel = Channel::new(number, base, capacity as usize).unwrap();
+        Port { kind, channel }
+    }
+
     // Whether it is closed or buffers less than its capacity.
     pub(crate) fn has_room(&self) -> bool
         ensures { result ≡ room self.now.channel }

@@ -35,12 +35,7 @@ impl Hub {
     }
 
     #[tactic(auto, using(crate::proofs::Receives::receive_took))]
-    fn receive(
-        &mut self,
-        values: &mut [Value],
-        handles: &mut [Handle],
-        number: u8,
-    ) -> Option<Deal>
+    fn receive(&mut self, values: &mut [Value], handles: &mut [Handle], number: u8) -> Option<Deal>
         requires { Enough values.old handles.old }
         ensures { Took (may_take self.old values.old handles.old (Receive number)) (dealt self.old values.old handles.old (Receive number)) self.old values.old handles.old result self.new values.new handles.new }
     {

@@ -26,6 +26,6 @@ pub returns-clause-fit : goal.returns-clause-fit
 returns-clause-fit c =
     let each = λ (p : Port). cells_for c.args.kind (declared p) in
     let is : c.sum.result ≡ cells c.args.kind (vec_items c.self.inside.ports) =
-        sum_by_from_yields_List each (vec_items c.self.inside.ports) c.map.result c.sum.result c.sum.ensures.ran
-        (YieldsList-from_map _ each (YieldsList-at c.map.ensures.source (YieldsList-from_slice (vec_items c.self.inside.ports) (c.iter.ensures.rest ∙ c.deref.ensures.value))) c.map.ensures.closure (λ x r q k. search (rules, tests))) in
+    sum_by_from_yields_List each (vec_items c.self.inside.ports) c.map.result c.sum.result c.sum.ensures.ran
+    (YieldsList-from_map _ each (YieldsList-at c.map.ensures.source (YieldsList-from_slice (vec_items c.self.inside.ports) (c.iter.ensures.rest ∙ c.deref.ensures.value))) c.map.ensures.closure (λ x r q k. search (rules, tests))) in
     rw is (cells_fit c.args.kind (vec_items c.self.inside.ports) c.self.invariant)

@@ -20,6 +20,6 @@ returns c =
     let i : c.args.number < length b.ports = omega (arith, c.in_ok-port.ensures.variant.0 refl, c.self.inside.ports.ok.0) in
     let t = c.close.ensures in
     let l = close_leaves b c.args.number c.self.invariant i (vec_capacity c.args.freed.now - vec_len c.args.freed.now) (vec_items c.args.freed.now) _ _ _ _ _ _
-        (get_or_read b.ports c.args.number _ i c.in_ok-port.ensures.value no_port)
-        t.answer t.channel t.items t.line c.ok.ensures.value in
+    (get_or_read b.ports c.args.number _ i c.in_ok-port.ensures.value no_port)
+    t.answer t.channel t.items t.line c.ok.ensures.value in
     rw (← c.self.view_is) (record { answer = l.answered; items = l.noted; room = t.room; board = l.board; seen = l.seen; leaving = λ vs hs. refl })
