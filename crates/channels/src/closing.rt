@@ -15,6 +15,7 @@ impl Channel {
         ensures value { result ≡ length (freed_at self.now waiting.old) }
         ensures items { freed.new.items ≡ freed.old.items ++ freed_at self.now waiting.old }
         ensures line { waiting.new ≡ line_closed self.now waiting.old }
+        ensures room { vec_capacity freed.new ≡ vec_capacity freed.old }
     {
         let before = freed.len();
         // a loop: each turn changes the line and the list, of which a closure's caller would learn nothing
@@ -35,6 +36,7 @@ impl Channel {
         ensures channel { self.new ≡ (if is_ok result then shut self.old else self.old) }
         ensures items { freed.new.items ≡ (if is_ok result then freed.old.items ++ freed_at self.old waiting.old else freed.old.items) }
         ensures line { waiting.new ≡ (if is_ok result then line_closed self.old waiting.old else waiting.old) }
+        ensures room { vec_capacity freed.new ≡ vec_capacity freed.old }
     {
         if self.closed {
             return Err(CloseError::AlreadyClosed);

@@ -1,5 +1,5 @@
 -- What memory keeps of the channels of a run, and what it stands for with the cells of both kinds.
-use Rattle.std.specs.Prelude.{◌≡◌, ℕ, ◌+◌, ◌≤◌, Bool, false, List, [], ◌∷◌, map, length, replicate, slice_index_or, ◌&&◌, nat_le}
+use Rattle.std.specs.Prelude.{sum_by, ◌≡◌, ℕ, ◌+◌, ◌≤◌, Bool, false, List, [], ◌∷◌, map, length, replicate, ◌&&◌, ◌||◌, nat_le, nat_lt}
 use Rattle.lines.specs.declared.line.Kind.{Kind}
 use Rattle.lines.specs.declared.line.Kind.TheVariants.{Value as ValueKind, Handle as HandleKind}
 use Rattle.elements.specs.declared.value.Value.{Value as Number}
@@ -28,6 +28,10 @@ pub record Enough (vs : List Number) (hs : List Holder) : Type 0 where
 abbrev pub enough : List Number → List Holder → Bool
 enough vs hs = nat_le 512 (length vs) && nat_le 128 (length hs)
 
+abbrev pub cells_of : Kind → ℕ
+cells_of ValueKind = 512
+cells_of HandleKind = 128
+
 -- ---- what it stands for: each buffer is read from the cells of its kind, oldest first
 abbrev pub buffered : Kind → Layout → List Number → List Holder → List Item
 buffered ValueKind l vs hs = map Value (held l vs)
@@ -38,6 +42,13 @@ seen_port vs hs p = record { kind = p.kind; capacity = p.channel.ring.capacity; 
 
 abbrev pub seen : Board → List Number → List Holder → Hub
 seen b vs hs = record { channels = map (seen_port vs hs) b.ports; line = b.line; wishes = b.wishes }
+
+-- ---- what a channel is ready for with nobody waiting: it is closed, or has room, or an element
+abbrev pub has_room : Channel → Bool
+has_room c = c.closed || nat_lt c.ring.count c.ring.capacity
+
+abbrev pub has_some : Channel → Bool
+has_some c = c.closed || nat_lt 0 c.ring.count
 
 -- ---- where the channels lie
 -- a channel, the cells of values and of handles before it being v and h
@@ -53,16 +64,25 @@ abbrev pub laid : ℕ → ℕ → ℕ → List Declared → List Port
 laid c v h [] = []
 laid c v h (d ∷ ds) = new_port c v h d ∷ laid (c + 1) (v + cells_for ValueKind d) (h + cells_for HandleKind d) ds
 
+-- whether all of them lie in the cells that there are
+abbrev pub can_be_laid : ℕ → ℕ → ℕ → List Declared → Bool
+can_be_laid c v h [] = nat_le c 32 && (nat_le v 512 && nat_le h 128)
+can_be_laid c v h (d ∷ ds) = nat_le d.capacity 64 && can_be_laid (c + 1) (v + cells_for ValueKind d) (h + cells_for HandleKind d) ds
+
 abbrev pub new_board : List Declared → Board
 new_board ds = record { ports = laid 0 0 0 ds; line = []; wishes = replicate 64 [] }
 
--- ---- what holds of every board: each channel has its number, its cells follow those of the earlier ones, and all of a
--- kind together have no more than there are
+-- ---- what holds of every board: there are 32 channels at most, each has its number, its cells follow those of the earlier
+-- ones, and all of a kind together have no more than there are
 abbrev pub declared : Port → Declared
 declared p = record { kind = p.kind; capacity = p.channel.ring.capacity }
 
+-- how many cells of kind k the channels have together
+abbrev pub cells : Kind → List Port → ℕ
+cells k ps = sum_by (λ p. cells_for k (declared p)) ps
+
 abbrev pub Placed : ℕ → ℕ → ℕ → List Port → Type 0
-Placed c v h [] = (v ≤ 512) × (h ≤ 128)
+Placed c v h [] = (c ≤ 32) × (v ≤ 512) × (h ≤ 128)
 Placed c v h (p ∷ ps) =
     (p.channel.number ≡ c) × (p.channel.ring.base ≡ base_for p.kind v h) × Sound p.channel.ring
     × Placed (c + 1) (v + cells_for ValueKind (declared p)) (h + cells_for HandleKind (declared p)) ps

@@ -1,19 +1,22 @@
--- What a taken case and a close leave in memory.
-use Rattle.std.specs.Prelude.{ℕ, Bool, true, false, cond, ◌&&◌, List, [], ◌∷◌, length, Some, None, Option, nat_lt, slice_index_or, slice_set}
+-- What a taken case, a join and a close leave in memory.
+use Rattle.std.specs.Prelude.{◌≡◌, ℕ, Bool, false, cond, ◌&&◌, List, [], ◌∷◌, ◌++◌, length, Some, None, Option, nat_lt, nat_le, not, slice_index_or, slice_set}
 use Rattle.lines.specs.declared.line.Kind.TheVariants.{Value as ValueKind}
 use Rattle.elements.specs.declared.value.Value.{Value as Number}
 use Rattle.elements.specs.declared.handle.Handle.{Handle as Holder}
 use Rattle.rings.specs.Layouts.{Layout, fresh, next_cell, one_more, one_less}
 use Rattle.waiting.specs.declared.wish.Wish.{Wish}
 use Rattle.waiting.specs.declared.wish.Wish.TheVariants.{Send, Receive}
+use Rattle.waiting.specs.Queues.{Row, written}
+use Rattle.waiting.specs.declared.wish.Entry.{Entry}
 use Rattle.channels.specs.Seen.{shut}
+use Rattle.channels.specs.Closes.{freed, without_all}
 use Rattle.routines.specs.declared.item.Item.{Item}
 use Rattle.routines.specs.declared.item.Item.TheVariants.{Value, Handle}
 use Rattle.runs.specs.Cases.{can_go}
-use Rattle.runs.specs.Taking.{Deal, take, leaving, closed_at}
+use Rattle.runs.specs.Taking.{Deal, take}
 use Rattle.hub.specs.declared.port.Port.{Port}
-use Rattle.hub.specs.declared.hub.Deal.{Deal as Answer}
-use Rattle.hub.specs.Boards.{Board, seen, enough}
+use Rattle.hub.specs.declared.deal.Deal.{Deal as Answer}
+use Rattle.hub.specs.Boards.{Board, seen, enough, Placed}
 
 -- ---- one channel in memory
 abbrev pub no_port : Port
@@ -73,9 +76,30 @@ answer d = record { passed = d.passed; released = d.released }
 abbrev pub board_after : Deal → Board → Board
 board_after d b = record { ports = stored_in d.stored (drawn_from d.drawn b.ports); line = d.hub.line; wishes = d.hub.wishes }
 
+-- what is left of a board and the cells where t says whether a case may be taken, and d is its deal
+pub record Took (t : Bool) (d : Deal) (b : Board) (vs : List Number) (hs : List Holder) (a : Option Answer) (after : Board) (us : List Number) (gs : List Holder) : Type 0 where
+  pub answered : a ≡ cond t (Some (answer d)) None
+  pub board : after ≡ cond t (board_after d b) b
+  pub values : us ≡ cond t (values_after b.ports d.drawn d.stored vs) vs
+  pub handles : gs ≡ cond t (handles_after b.ports d.drawn d.stored hs) hs
+  pub seen : seen after us gs ≡ cond t d.hub (seen b vs hs)
+  pub placed : Placed 0 0 0 after.ports
+
+-- ---- a routine joins
+abbrev pub board_joined : ℕ → Row Item → Board → Board
+board_joined r ws b = record b { line = b.line ++ (r ∷ []); wishes = written r ws b.wishes }
+
 -- ---- a channel is closed
 abbrev pub shut_in : ℕ → List Port → List Port
 shut_in c ps = slice_set ps c (record (port ps c) { channel = shut (port ps c).channel })
 
-abbrev pub board_closed : ℕ → List Number → List Holder → Board → Board
-board_closed c vs hs b = record b { ports = shut_in c b.ports; line = (closed_at (seen b vs hs) c).line }
+-- there is such a channel, it was not closed before, and there is room to note 64
+abbrev pub may_close : ℕ → ℕ → Board → Bool
+may_close c room b = nat_lt c (length b.ports) && (not (port b.ports c).channel.closed && nat_le 64 room)
+
+-- who is released, in order
+abbrev pub leaving_from : ℕ → Board → List (Entry Item)
+leaving_from c b = freed c b.line b.wishes
+
+abbrev pub board_closed : ℕ → Board → Board
+board_closed c b = record b { ports = shut_in c b.ports; line = without_all (leaving_from c b) b.line }

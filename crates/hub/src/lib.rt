@@ -1,8 +1,15 @@
 // The channels of a run, of both kinds, and who waits at them.
 #![tactic(auto)]
 
+mod clearing;
+mod closing;
+mod deal;
 mod hub;
+mod item;
+mod making;
 mod port;
+mod taking;
 
-pub use hub::{Deal, Hub};
+pub use deal::Deal;
+pub use hub::Hub;
 pub use port::Port;

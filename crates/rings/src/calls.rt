@@ -9,7 +9,7 @@ use elements::Element;
 
 // Sets each cell to the zero element. `fill` asks for a clone that cannot fail, which no kind owes, and `E::zero` itself
 // as the closure is not covered: its result names the kind.
-fn zero_all<E: Element>(cells: &mut [E])
+pub fn zero_all<E: Element>(cells: &mut [E])
     ensures { cells.new ≡ replicate (length cells.old) E.nought }
 {
     let zero = E::zero();

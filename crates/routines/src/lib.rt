@@ -2,6 +2,7 @@
 #![tactic(auto)]
 
 mod arithmetic;
+mod carries;
 mod item;
 mod registers;
 mod routine;

@@ -21,6 +21,7 @@ loop-entry-preserved g c =
       noted = rw (c.push_reserved.ensures.items, append_assoc, t.line, ← more) c.loop-entry.invariant.noted;
       left = rw t.line (rw more at c.loop-entry.invariant.left);
       more = omega (arith, c.loop-entry.invariant.more);
+      kept = omega (arith, c.loop-entry.invariant.kept);
       room = omega (arith, c.loop-entry.invariant.room, ap (λ st. length st.line) t.line, less);
     }
 
@@ -33,4 +34,5 @@ returns g c =
       value = omega (arith, ap length items, length-append (vec_items c.args.freed.now) (freed_at c.args.self.now c.args.waiting.now), c.loop-entry.freed.ok.0, c.args.freed.now.ok.0);
       items = items;
       line = t.line ∙ rw none at c.loop-entry.invariant.left;
+      room = c.loop-entry.invariant.kept;
     }

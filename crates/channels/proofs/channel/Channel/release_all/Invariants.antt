@@ -8,6 +8,7 @@ invariant-loop-entry g l = record {
   noted : vec_items l.freed ++ freed_at l.self l.waiting ≡ vec_items l.initial.freed ++ freed_at l.self l.initial.waiting;
   left : line_closed l.self l.waiting ≡ line_closed l.self l.initial.waiting;
   more : vec_len l.initial.freed ≤ vec_len l.freed;
+  kept : vec_capacity l.freed ≡ vec_capacity l.initial.freed;
   room : vec_len l.freed + length l.waiting.line ≤ vec_capacity l.freed;
 }
 

@@ -1,0 +1,6 @@
+pub mod Boards
+pub mod Places
+pub mod Sends
+pub mod Receives
+pub mod Closes
+pub mod Laid
