@@ -8,7 +8,7 @@ use Rattle.std.proofs.Math.Seq.{take-append_seam}
 use Rattle.std.proofs.lemmas.List.{get_or-set_same, get_or-set_other, get_or-replicate, get_or-map, length-replicate}
 use Rattle.waiting.specs.declared.wish.Side.{Side}
 use Rattle.waiting.specs.Queues.{Row, places, queue, cases, first, waits, without, written}
-use Rattle.waiting.specs.Marks.{has, slot, any_stands, Marked, Unmarked, IsSetOf, Exact}
+use Rattle.waiting.specs.Marks.{has, slot, any_stands, Marked, Unmarked, IsPresent, IsSetOf, Exact}
 
 -- who waits when r has joined, and when r has left
 pub waits_push : (k r : ℕ) (line : List ℕ) → waits k (line ++ r ∷ []) ≡ (waits k line || eqb k r)
@@ -18,6 +18,12 @@ waits_push k r (q ∷ line) = grind (arith, nat_tests, waits_push k r line)
 pub waits_less : (k r : ℕ) (line : List ℕ) → waits k (without r line) ≡ (waits k line && not (eqb k r))
 waits_less k r [] = refl
 waits_less k r (q ∷ line) = grind (arith, nat_tests, waits_less k r line)
+
+pub present_joined : (r : ℕ) (set set' : ℕ) (line : List ℕ) → IsPresent line set → ((k : ℕ) → has set' k ≡ (has set k || eqb k r)) → IsPresent (line ++ r ∷ []) set'
+present_joined r set set' line e m k = m k ∙ ap (λ b. b || eqb k r) (e k) ∙ sym (waits_push k r line)
+
+pub present_left : (r : ℕ) (set set' : ℕ) (line : List ℕ) → IsPresent line set → ((k : ℕ) → has set' k ≡ (has set k && not (eqb k r))) → IsPresent (without r line) set'
+present_left r set set' line e m k = m k ∙ ap (λ b. b && not (eqb k r)) (e k) ∙ sym (waits_less k r line)
 
 pub exact_joined : {X : Type 0} (r : ℕ) (ws : Row X) (marks marks' line : List ℕ) (table : List (Row X))
     → r < length table → waits r line ≡ false → Exact line table marks → Marked r ws marks marks' → Exact (line ++ r ∷ []) (written r ws table) marks'

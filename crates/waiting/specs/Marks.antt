@@ -11,6 +11,10 @@ use Rattle.waiting.specs.Queues.{Row, stands, cases, waits}
 abbrev pub has : ℕ → ℕ → Bool
 has set r = nat_lt r 64 && bit_at set r == 1
 
+-- a set has exactly the routines of the line
+abbrev pub IsPresent : List ℕ → ℕ → Type 0
+IsPresent line set = (r : ℕ) → has set r ≡ waits r line
+
 -- where the set of a queue lies: those of channel c side by side
 abbrev pub slot : Side → ℕ → ℕ
 slot Receivers c = 2 * c

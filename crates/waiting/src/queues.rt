@@ -10,7 +10,7 @@ ghost use Rattle.waiting.specs.Runs.{step, joins, leaves, releases};
 use crate::cases::Cases;
 use crate::line::Waiting;
 use crate::marks::{mark, unmark};
-use crate::sets::{has, only};
+use crate::sets::{has, only, with, without};
 use crate::wish::{Entry, Queue, Wish};
 use std::alloc::{AllocError, Global};
 
@@ -72,7 +72,12 @@ impl<X: Copy> Waiting<X> {
         let line = Vec::with_capacity(heap, 64)?;
         let table = blank(heap)?;
         let marks = vec![in heap; 0; 512]?;
-        Ok(Waiting { line, table, marks })
+        Ok(Waiting {
+            line,
+            table,
+            present: 0,
+            marks,
+        })
     }
 
     // How many routines wait: at most 64, each of them one of the 64 and none twice.
@@ -89,7 +94,7 @@ impl<X: Copy> Waiting<X> {
     pub fn waits(&self, routine: u8) -> bool
         ensures { result ≡ is_waiting routine self.now.line }
     {
-        self.line.contains(&routine)
+        has(self.present, routine)
     }
 
     // The cases of a routine.
@@ -187,6 +192,7 @@ impl<X: Copy> Waiting<X> {
         lay(&mut self.table[routine as usize], wishes);
         mark(&mut self.marks, routine, wishes);
         self.line.push_reserved(routine);
+        self.present = with(self.present, routine);
         true
     }
 
@@ -202,6 +208,7 @@ impl<X: Copy> Waiting<X> {
         }
         unmark(&mut self.marks, routine, &self.table[routine as usize]);
         strike(&mut self.line, routine);
+        self.present = without(self.present, routine);
         true
     }
 

@@ -3,8 +3,9 @@ use Rattle.std.proofs.Common.{◌<◌, ◌≤◌, length, map, vec_items, vec_ca
 use Rattle.std.proofs.lemmas.List.{map-set, length-map}
 use Rattle.std.proofs.lemmas.List.Elements.{All-set}
 use Rattle.waiting.specs.Queues.{Orderly}
+use Rattle.waiting.specs.Marks.{IsPresent}
 use Rattle.waiting.proofs.Lines.{may_join_parts, room_to_join}
-use Rattle.waiting.proofs.Marking.{exact_joined, written_back}
+use Rattle.waiting.proofs.Marking.{present_joined, exact_joined, written_back}
 use Rattle.waiting.proofs.Orders.{queue_joined}
 use Rattle.waiting.proofs.line.Waiting.join.Goals as goal
 
@@ -27,10 +28,11 @@ invariant_of-self g c =
       c.self.invariant.2,
       All-set (λ row. (length (vec_items row) ≤ 8) × (8 ≤ vec_capacity row)) c.self.inside.table.items c.args.routine c.lay.new.row
           (omega (arith, parts.1, ap length c.lay.ensures.items), omega (arith, c.lay.ensures.room, roomy)) c.self.invariant.3,
-      c.self.invariant.4,
+      subst (λ l. IsPresent l c.with-self-inside.result) (sym c.push_reserved.ensures.items) (present_joined c.args.routine c.self.inside.present c.with-self-inside.result c.self.inside.line.items c.self.invariant.4 c.with-self-inside.ensures),
+      c.self.invariant.5,
       rw (back, c.push_reserved.ensures.items, map-set, c.lay.ensures.items)
           (exact_joined c.args.routine c.args.wishes.now c.self.inside.marks.items c.mark.new.marks c.self.inside.line.items (map vec_items c.self.inside.table.items)
-          (omega (arith, inside, length-map c.self.inside.table.items vec_items)) parts.2 c.self.invariant.5 on),
+          (omega (arith, inside, length-map c.self.inside.table.items vec_items)) parts.2 c.self.invariant.6 on),
     )
 
 pub returns-clause-steps : goal.returns-clause-steps

@@ -1,8 +1,9 @@
 -- What striking a routine off the line, and its marks off the queues, does.
 use Rattle.std.proofs.Common.{map, vec_items, sym, subst, refl, arith}
 use Rattle.waiting.specs.Queues.{Orderly}
+use Rattle.waiting.specs.Marks.{IsPresent}
 use Rattle.waiting.proofs.Lines.{orderly_without, without_absent, below}
-use Rattle.waiting.proofs.Marking.{exact_left, written_back, row_of}
+use Rattle.waiting.proofs.Marking.{present_left, exact_left, written_back, row_of}
 use Rattle.waiting.proofs.Orders.{queue_without, gone}
 use Rattle.waiting.proofs.line.Waiting.leave.Goals as goal
 
@@ -49,6 +50,7 @@ invariant_of-self g c =
       omega (arith, c.self.invariant.1, c.strike.ensures.room),
       c.self.invariant.2,
       c.self.invariant.3,
-      c.self.invariant.4,
-      rw (back, c.strike.ensures.items) (exact_left r c.self.inside.marks.items c.unmark.new.marks c.self.inside.line.items (map vec_items c.self.inside.table.items) c.self.invariant.5 off),
+      subst (λ l. IsPresent l c.without-self-inside.result) (sym c.strike.ensures.items) (present_left r c.self.inside.present c.without-self-inside.result c.self.inside.line.items c.self.invariant.4 c.without-self-inside.ensures),
+      c.self.invariant.5,
+      rw (back, c.strike.ensures.items) (exact_left r c.self.inside.marks.items c.unmark.new.marks c.self.inside.line.items (map vec_items c.self.inside.table.items) c.self.invariant.6 off),
     )
