@@ -28,6 +28,7 @@ pub(crate) fn without(set: u64, routine: u8) -> u64
 }
 
 // The routine of a set that has no other.
+#[tactic(auto, using(crate::proofs::Digits::has_only))]
 pub(crate) fn only(set: u64) -> Option<u8>
     ensures { IfSome result (λ r. (k : ℕ) → has_routine set k ≡ (k == r)) }
 {
