@@ -1,12 +1,13 @@
 -- What `find_map` finds of a chain, and the front of lists that follow one another.
-use Rattle.std.proofs.Common.{◌≡◌, ℕ, zero, suc, ◌+◌, ◌<◌, List, [], ◌∷◌, ◌++◌, Some, None, Option, sym, refl, ap, ◌∙◌, subst, arith}
+use Rattle.std.proofs.Common.{◌≡◌, ℕ, zero, suc, ◌+◌, ◌<◌, Bool, true, false, cond, List, [], ◌∷◌, ◌++◌, Some, None, Option, sym, refl, ap, ◌∙◌, subst, length, length-append, arith}
 use Rattle.std.specs.Fn.{Called}
 use Rattle.std.specs.Bool.{IsTrue}
 use Rattle.std.specs.Iterator.{AlwaysYields, Yields}
 use Rattle.std.specs.Iterator.Runs.{SomeRun, YieldsRun, AllItemsGive, IsFirstToGive}
 use Rattle.std.specs.Option.{MatchOption, IfSome, IsSomeAnd}
-use Rattle.std.specs.List.{filter_map, flat_map, cons_option, slice_get}
+use Rattle.std.specs.List.{filter, filter_map, flat_map, cons_option, slice_get, sum_by}
 use Rattle.std.proofs.lemmas.Iterator.{YieldsList}
+use Rattle.std.proofs.lemmas.List.Sums.{sum_by-cons}
 use denote.Param.Members.{Mut}
 use Rattle.waiting.specs.Queues.{first}
 
@@ -54,9 +55,23 @@ module _ {S A B C F : Type 0} (steps : S → Option A → S → Type 0) (v : A �
       (subst (λ o. IsSomeAnd o (λ x. Some z ≡ h (v x))) (p.gave.1 d.2.0) (here (Some z) (p.at d.2.0) hit.0))
       (λ k l. subst (λ o. IsSomeAnd o (λ x. None ≡ h (v x))) (p.gave.1 k) (here None (p.at k) (hit.1 k l)))
 
--- the first of the firsts is the first of all
-pub first_of_firsts : {A B : Type 0} (f : A → List B) (xs : List A) → first (filter_map (λ x. first (f x)) xs) ≡ first (flat_map f xs)
-first_of_firsts f [] = refl
-first_of_firsts {A} {B} f (x ∷ xs) =
-    let ih = first_of_firsts f xs in
-    elim (f x) as (λ (l : List B). first (cons_option (first l) (filter_map (λ x. first (f x)) xs)) ≡ first (l ++ flat_map f xs)) [ [] ↦ ih | y ∷ ys ↦ refl ]
+-- the first of the firsts, of those that pass a test, is the first of all theirs
+pub first_of_passing : {A B : Type 0} (p : A → Bool) (f : A → List B) (xs : List A) → first (filter_map (λ x. cond (p x) (first (f x)) None) xs) ≡ first (flat_map f (filter p xs))
+first_of_passing p f [] = refl
+first_of_passing {A} {B} p f (x ∷ xs) =
+    let ih = first_of_passing p f xs in
+    elim (p x) as (λ b. first (cons_option (cond b (first (f x)) None) (filter_map (λ x. cond (p x) (first (f x)) None) xs)) ≡ first (flat_map f (cond b (x ∷ filter p xs) (filter p xs)))) [
+      | false ↦ ih
+      | true ↦ elim (f x) as (λ (l : List B). first (cons_option (first l) (filter_map (λ x. cond (p x) (first (f x)) None) xs)) ≡ first (l ++ flat_map f (filter p xs))) [ [] ↦ ih | y ∷ ys ↦ refl ]
+    ]
+
+-- how many places those have who pass a test
+pub length_of_passing : {A B : Type 0} (p : A → Bool) (f : A → List B) (xs : List A) → sum_by (λ x. cond (p x) (length (f x)) 0) xs ≡ length (flat_map f (filter p xs))
+length_of_passing p f [] = refl
+length_of_passing {A} {B} p f (x ∷ xs) =
+    let ih = length_of_passing p f xs in
+    sum_by-cons (λ y. cond (p y) (length (f y)) 0) x xs
+    ∙ elim (p x) as (λ b. cond b (length (f x)) 0 + sum_by (λ y. cond (p y) (length (f y)) 0) xs ≡ length (flat_map f (cond b (x ∷ filter p xs) (filter p xs)))) [
+      | false ↦ omega (arith, ih)
+      | true ↦ ap (λ n. length (f x) + n) ih ∙ sym (length-append (f x) (flat_map f (filter p xs)))
+    ]

@@ -1,5 +1,5 @@
 -- The line when a routine joins or leaves it.
-use Rattle.std.proofs.Common.{Vec, map, replicate, vec_items, vec_capacity, ap₂, ◌≡◌, ℕ, zero, suc, ◌<◌, ◌≤◌, Bool, true, false, cond, not, eqb, List, [], ◌∷◌, ◌++◌, length, sym, refl, ap, arith, length-append}
+use Rattle.std.proofs.Common.{Vec, map, replicate, vec_items, vec_capacity, ap₂, ◌≡◌, ℕ, zero, suc, ◌<◌, ◌≤◌, Bool, true, false, cond, not, eqb, List, [], ◌∷◌, ◌++◌, length, get_or, sym, refl, ap, arith, length-append}
 use Rattle.std.specs.List.{All, AllByRecursion, IsDistinct}
 use Rattle.std.proofs.lemmas.Bool.{eqb-true, eq-eqb}
 use Rattle.std.proofs.lemmas.List.Folds.{Any-from_list_any}
@@ -7,7 +7,7 @@ use Rattle.std.proofs.lemmas.List.Elements.{All-filter, All-append, All-nil}
 use Rattle.std.proofs.lemmas.Map.Keys.{IsDistinct-push}
 use Rattle.std.proofs.lemmas.Map.Steps.{length-le_from_distinct_below}
 use Rattle.std.proofs.lemmas.Map.Views.{any-filter_same}
-use Rattle.std.specs.List.{filter}
+use Rattle.std.specs.List.{filter, remove}
 use Rattle.std.specs.Cmp.{nat_eq_equiv}
 use Rattle.waiting.specs.Queues.{waits, without, Orderly}
 use Rattle.waiting.specs.Laws.{may_join}
@@ -25,6 +25,34 @@ distinct p [] h = tt
 distinct p (x ∷ xs) h =
     let ih = distinct p xs h.1 in
     elim (p x) as (λ b. IsDistinct eqb (cond b (x ∷ filter p xs) (filter p xs))) [ true ↦ (kept _ p xs h.0, ih) | false ↦ ih ]
+
+-- who does not wait is not struck off
+pub without_absent : (r : ℕ) (line : List ℕ) → waits r line ≡ false → without r line ≡ line
+without_absent r [] e = refl
+without_absent r (q ∷ line) e = grind (arith, nat_tests, without_absent r line)
+
+apart : (r : ℕ) (xs : List ℕ) → AllByRecursion (λ y. eqb r y ≡ false) xs → waits r xs ≡ false
+apart r [] h = refl
+apart r (x ∷ xs) h = grind (arith, nat_tests, h.0, apart r xs h.1)
+
+apart_at : (x : ℕ) (xs : List ℕ) (i d : ℕ) → AllByRecursion (λ y. eqb x y ≡ false) xs → i < length xs → eqb x (get_or xs i d) ≡ false
+apart_at x [] i d h l = absurd (omega arith)
+apart_at x (y ∷ xs) zero d h l = h.0
+apart_at x (y ∷ xs) (suc i) d h l = apart_at x xs i d h.1 (omega arith)
+
+-- to take one out of a line without doubles is to strike it off
+removed : (r i d : ℕ) (line : List ℕ) → IsDistinct eqb line → i < length line → get_or line i d ≡ r → remove line i ≡ without r line
+unfolding IsDistinct
+removed r i d [] h l e = absurd (omega arith)
+removed r zero d (x ∷ xs) h l e = grind (arith, nat_tests, e, h.0, apart x xs h.0, without_absent x xs)
+removed r (suc i) d (x ∷ xs) h l e = grind (arith, nat_tests, e, apart_at x xs i d h.0 (omega arith), removed r i d xs h.1 (omega arith) e)
+
+pub orderly_removed : (n r i d : ℕ) (line : List ℕ) → Orderly n line → i < length line → get_or line i d ≡ r → remove line i ≡ without r line
+orderly_removed n r i d line h l e = removed r i d line h.1 l e
+
+-- who waits is one of them
+pub below : (n r : ℕ) (line : List ℕ) → Orderly n line → waits r line ≡ true → r < n
+below n r line h e = let a = Any-from_list_any (eqb r) line e in omega (arith, h.0 a.0 a.1 a.2, a.3, eqb-true r a.1 a.4)
 
 pub orderly_without : (n r : ℕ) (line : List ℕ) → Orderly n line → Orderly n (without r line)
 orderly_without n r line h = (All-filter _ (λ q. q < n) line h.0, distinct _ line h.1)

@@ -4,7 +4,9 @@
 mod cases;
 mod laws;
 mod line;
+mod marks;
 mod queues;
+mod sets;
 mod wish;
 
 pub use laws::queues_keep_order;

@@ -1,13 +1,16 @@
 // Joining the line, leaving it, and the queues that are read from it.
-ghost use Rattle.std.specs.Prelude.{◌≡◌, ◌≤◌, [], length, vec_len, vec_capacity, IfOk};
+ghost use Rattle.std.specs.Prelude.{◌≡◌, ◌<◌, ◌≤◌, [], false, length, filter, cond, None, slice_index_or, vec_len, vec_capacity, IfOk, IfSome};
 ghost use Rattle.std.specs.List.{All};
 ghost use Rattle.waiting.specs.Lines.{nobody};
-ghost use Rattle.waiting.specs.Queues.{queue, first as first_of, waits as is_waiting, Orderly, cases, without};
+ghost use Rattle.waiting.specs.Queues.{queue, places, first as first_of, waits as is_waiting, Orderly, cases, without};
+ghost use Rattle.waiting.specs.Marks.{has as has_routine, IsSetOf};
 ghost use Rattle.waiting.specs.Laws.{may_join, Absent, Joined, Parted, Served};
 ghost use Rattle.waiting.specs.Runs.{step, joins, leaves, releases};
 
 use crate::cases::Cases;
 use crate::line::Waiting;
+use crate::marks::{mark, unmark};
+use crate::sets::{has, only, with, without};
 use crate::wish::{Entry, Queue, Wish};
 use std::alloc::{AllocError, Global};
 
@@ -25,12 +28,30 @@ fn lay<X: Copy>(row: &mut Vec<Option<Wish<X>>>, wishes: &[Option<Wish<X>>])
     }
 }
 
+// Where a routine stands in the line. It is sought from the end: who joined last is found first, however many wait.
+fn place_of(line: &[u8], routine: u8) -> Option<usize>
+    ensures some { IfSome result (λ i. (i < length line.now) × (slice_index_or line.now i 0 ≡ routine)) }
+    ensures none { result ≡ None → is_waiting routine line.now ≡ false }
+{
+    let mut i = line.len();
+    while 0 < i {
+        i -= 1;
+        if line[i] == routine {
+            return Some(i);
+        }
+    }
+    None
+}
+
 // Takes the routine out of the line, and leaves the others in their order.
 fn strike(line: &mut Vec<u8>, routine: u8)
+    requires { Orderly 64 line.old.items }
     ensures items { line.new.items ≡ without routine line.old.items }
     ensures room { vec_capacity line.new ≡ vec_capacity line.old }
 {
-    line.retain(|r| *r != routine);
+    if let Some(i) = place_of(line, routine) {
+        let _ = line.remove(i);
+    }
 }
 
 // A table of 64 empty rows, with room for 8 cases in each.
@@ -50,7 +71,13 @@ impl<X: Copy> Waiting<X> {
     {
         let line = Vec::with_capacity(heap, 64)?;
         let table = blank(heap)?;
-        Ok(Waiting { line, table })
+        let marks = vec![in heap; 0; 512]?;
+        Ok(Waiting {
+            line,
+            table,
+            present: 0,
+            marks,
+        })
     }
 
     // How many routines wait: at most 64, each of them one of the 64 and none twice.
@@ -67,7 +94,7 @@ impl<X: Copy> Waiting<X> {
     pub fn waits(&self, routine: u8) -> bool
         ensures { result ≡ is_waiting routine self.now.line }
     {
-        self.line.contains(&routine)
+        has(self.present, routine)
     }
 
     // The cases of a routine.
@@ -82,22 +109,65 @@ impl<X: Copy> Waiting<X> {
         Cases { routine, wishes }
     }
 
-    // The front of that queue.
-    pub fn first(&self, q: Queue) -> Option<Entry<X>>
-        ensures { result ≡ first_of (queue q.side q.channel self.now.line self.now.table) }
+    // The routines that stand in that queue.
+    fn standing(&self, q: Queue) -> u64
+        ensures { IsSetOf q.side q.channel self.now.line self.now.table result }
+    {
+        self.marks[q.slot()]
+    }
+
+    // The first place of a routine in that queue, if it is one of the set.
+    fn front_of(&self, routine: u8, set: u64, q: Queue) -> Option<Entry<X>>
+        ensures { result ≡ cond (has_routine set routine) (first_of (places q.side q.channel routine 0 (cases routine self.now.table))) None }
+    {
+        if !has(set, routine) {
+            return None;
+        }
+        self.cases_of(routine).first_in(q)
+    }
+
+    // The first place, along the line, of a routine of the set.
+    fn front_along(&self, set: u64, q: Queue) -> Option<Entry<X>>
+        ensures { result ≡ first_of (queue q.side q.channel (filter (has_routine set) self.now.line) self.now.table) }
     {
         self.line
             .iter()
-            .find_map(|routine| self.cases_of(*routine).first_in(q))
+            .find_map(|routine| self.front_of(*routine, set, q))
+    }
+
+    // The front of that queue. Mostly nobody stands in it, or one routine alone.
+    pub fn first(&self, q: Queue) -> Option<Entry<X>>
+        ensures { result ≡ first_of (queue q.side q.channel self.now.line self.now.table) }
+    {
+        let set = self.standing(q);
+        if set == 0 {
+            return None;
+        }
+        match only(set) {
+            Some(routine) => self.cases_of(routine).first_in(q),
+            None => self.front_along(set, q),
+        }
+    }
+
+    // How many places a routine has in that queue, if it is one of the set.
+    fn count_of(&self, routine: u8, set: u64, q: Queue) -> usize
+        ensures is { result ≡ cond (has_routine set routine) (length (places q.side q.channel routine 0 (cases routine self.now.table))) 0 }
+        ensures few { result ≤ 8 }
+    {
+        if !has(set, routine) {
+            return 0;
+        }
+        self.cases_of(routine).count_in(q)
     }
 
     // How many places that queue has.
     pub fn count(&self, q: Queue) -> usize
         ensures { result ≡ length (queue q.side q.channel self.now.line self.now.table) }
     {
+        let set = self.standing(q);
         self.line
             .iter()
-            .map(|routine| self.cases_of(*routine).count_in(q))
+            .map(|routine| self.count_of(*routine, set, q))
             .sum()
     }
 
@@ -120,7 +190,9 @@ impl<X: Copy> Waiting<X> {
             return false;
         }
         lay(&mut self.table[routine as usize], wishes);
+        mark(&mut self.marks, routine, wishes);
         self.line.push_reserved(routine);
+        self.present = with(self.present, routine);
         true
     }
 
@@ -131,9 +203,13 @@ impl<X: Copy> Waiting<X> {
         ensures order { Parted routine self.old self.new }
         ensures steps { self.new ≡ step (leaves routine) self.old }
     {
-        let waited = self.waits(routine);
+        if !self.waits(routine) {
+            return false;
+        }
+        unmark(&mut self.marks, routine, &self.table[routine as usize]);
         strike(&mut self.line, routine);
-        waited
+        self.present = without(self.present, routine);
+        true
     }
 
     // The front of that queue, which leaves every queue of every channel; the others keep their order.

@@ -1,13 +1,16 @@
--- The first place of the first who has one.
-use Rattle.std.proofs.Common.{◌∙◌, ap, rules}
-use Rattle.std.proofs.lemmas.Iterator.{YieldsList-from_slice}
-use borrow.Author.Tests.{tests}
-use Rattle.waiting.specs.Queues.{places, cases, first}
-use Rattle.waiting.proofs.Fronts.{found, first_of_firsts}
+-- What the set of the queue tells.
+use Rattle.std.proofs.Common.{◌∙◌, ap}
+use Rattle.waiting.specs.Queues.{first}
+use Rattle.waiting.proofs.Marking.{front_of_nobody, front_of_only, queue_of_set}
 use Rattle.waiting.proofs.line.Waiting.first.Goals as goal
 
-pub returns : goal.returns
-returns g c =
-    found _ _ _ (λ r. first (places c.args.q.side c.args.q.channel r 0 (cases r c.args.self.now.table))) _ (λ x r q k. search (rules, tests)) c.find_map.result c.find_map.ensures.runs
-    (YieldsList-from_slice c.args.self.now.line (c.iter.ensures.rest ∙ c.deref.ensures.value ∙ ap (λ s. s.line) c.self.view_is))
-    ∙ first_of_firsts (λ r. places c.args.q.side c.args.q.channel r 0 (cases r c.args.self.now.table)) c.args.self.now.line
+pub returns-then-set-eq0 : goal.returns-then-set-eq0
+returns-then-set-eq0 g c = front_of_nobody c.args.q.side c.args.q.channel _ _ _ c.standing-set.ensures c.if-set-eq0.true
+
+pub returns-in-Some : goal.returns-in-Some
+returns-in-Some g c =
+    rw (c.first_in.ensures, c.cases_of.ensures.what, c.cases_of.ensures.who)
+    (front_of_only c.args.q.side c.args.q.channel c.standing-set.result c.in-Some.routine _ _ c.standing-set.ensures c.in-Some.ensures)
+
+pub returns-in-None : goal.returns-in-None
+returns-in-None g c = c.front_along.ensures ∙ ap first (queue_of_set c.args.q.side c.args.q.channel _ _ _ c.standing-set.ensures)
