@@ -185,7 +185,7 @@ closes_linked p c (e ∷ es) run h f o l =
     (subst (λ i. Linked p (release w run).routines (release w run).turns (record h { line = without i h.line })) same (release_linked p w run h there o l))
 
 -- ---- one who is started
-pushed : (xs : List Routine) (y : Routine) (q : ℕ) → ((q ≡ length xs) × (at (xs ++ y ∷ []) q ≡ y)) ⊎ ((q ≡ length xs → ⊥) × (at (xs ++ y ∷ []) q ≡ at xs q))
+pub pushed : (xs : List Routine) (y : Routine) (q : ℕ) → ((q ≡ length xs) × (at (xs ++ y ∷ []) q ≡ y)) ⊎ ((q ≡ length xs → ⊥) × (at (xs ++ y ∷ []) q ≡ at xs q))
 pushed [] y zero = inl (refl, refl)
 pushed [] y (suc q) = inr (λ e. absurd (omega arith), refl)
 pushed (x ∷ xs) y zero = inr (λ e. absurd (omega arith), refl)
@@ -194,7 +194,7 @@ pushed (x ∷ xs) y (suc q) = elim (pushed xs y q) [
   | inr e ↦ inr ((λ f. e.0 (omega arith)), e.1)
 ]
 
-past_end : (xs : List Routine) → at xs (length xs) ≡ nobody
+pub past_end : (xs : List Routine) → at xs (length xs) ≡ nobody
 past_end [] = refl
 past_end (x ∷ xs) = past_end xs
 

@@ -127,11 +127,11 @@ no_more : {A : Type 0} (xs : List A) → some xs ≡ false → xs ≡ []
 no_more [] e = refl
 no_more (x ∷ xs) e = cc
 
-receives_there : (c : ℕ) (w : Wish Item) → stands Receivers c w ≡ true → w ≡ wish.Receive c
+pub receives_there : (c : ℕ) (w : Wish Item) → stands Receivers c w ≡ true → w ≡ wish.Receive c
 receives_there c (wish.Send d f) h = cc
 receives_there c (wish.Receive d) h = ap wish.Receive (eqb-true d c h)
 
-sends_there : (c : ℕ) (w : Wish Item) → stands Senders c w ≡ true → (f : Item) × (w ≡ wish.Send c f)
+pub sends_there : (c : ℕ) (w : Wish Item) → stands Senders c w ≡ true → (f : Item) × (w ≡ wish.Send c f)
 sends_there c (wish.Send d f) h = (f, ap (λ i. wish.Send i f) (eqb-true d c h))
 sends_there c (wish.Receive d) h = cc
 
