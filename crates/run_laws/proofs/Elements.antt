@@ -59,7 +59,7 @@ still : (h : Hub) (d : ℕ) → Flows h h None None d
 still h d = append-nil (codes h d)
 
 -- a channel that is there
-past_end : (cs : List Channel) (c : ℕ) → length cs ≤ c → channel_in cs c ≡ no_channel
+pub past_end : (cs : List Channel) (c : ℕ) → length cs ≤ c → channel_in cs c ≡ no_channel
 past_end [] c l = refl
 past_end (x ∷ cs) zero l = absurd (omega arith)
 past_end (x ∷ cs) (suc c) l = past_end cs c (omega arith)
@@ -95,7 +95,7 @@ module _ (h : Hub) (s : SettledHub h) (r : ℕ) where
   hungry : (c : ℕ) (w : Entry Item) (ws : List (Entry Item)) → queued h Receivers c ≡ w ∷ ws → codes h c ≡ []
   hungry c w ws q =
       let at = front_placed Receivers c h.line h.wishes w (ap first q) in
-      ap (map code_of) (no_more (channel h c).buffer (receiver_stuck h s w.routine w.case c at.there (at.case' ∙ ap Some (receives_there c w.wish at.side))).1)
+      ap (map code_of) (no_more (channel h c).buffer (receiver_stuck h s w.routine w.case c at.there (at.found ∙ ap Some (receives_there c w.wish at.side))).1)
 
   send_flows : (c : ℕ) (e e' : Item) → can_go h (Some (wish.Send c e)) ≡ true → (closed : Bool) → (channel h c).closed ≡ closed → (ws : List (Entry Item)) → queued h Receivers c ≡ ws
       → Deals (send_on h c e' closed ws)
@@ -190,7 +190,7 @@ keeps_elements p (suc n) run m few l s c =
     (step_keeps_elements p run m l s c)
     (keeps_elements p n t.run t.meaning few (step_lawful p run m l) (step_settled p run m few l s) c)
 
-new_empty : (ds : List Declared) (c : ℕ) → (channel_in (map new_channel ds) c).buffer ≡ []
+pub new_empty : (ds : List Declared) (c : ℕ) → (channel_in (map new_channel ds) c).buffer ≡ []
 new_empty [] c = refl
 new_empty (d ∷ ds) zero = refl
 new_empty (d ∷ ds) (suc c) = new_empty ds c

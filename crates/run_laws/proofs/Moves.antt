@@ -304,7 +304,7 @@ keeps_moves p (suc n) run m few l s r =
     (step_keeps_moves p run m s r)
     (keeps_moves p n t.run t.meaning few (step_lawful p run m l) (step_settled p run m few l s) r)
 
-first_due : (p : Program) (r : ℕ) → due (started p) r ≡ []
+pub first_due : (p : Program) (r : ℕ) → due (started p) r ≡ []
 first_due p zero = refl
 first_due p (suc r) = refl
 

@@ -205,9 +205,6 @@ begins_settled p = record {
   hub = record { few = new_few p.channels; stuck = λ r k w. cc; apart = λ r q j k v w n. cc };
 }
   where
-    x : Routine
-    x = first_routine p
-
     awake : (r : ℕ) → false ≡ is_waiting (slice_index_or (first_routine p ∷ []) r nobody).state
     awake zero = refl
     awake (suc r) = refl

@@ -142,14 +142,14 @@ channels_guarded p run s c = record {
       let front = some_first (queued run.hub Receivers c) h in
       let e : Entry Item = front.0 in
       let at = front_placed Receivers c run.hub.line run.hub.wishes e front.1 in
-      let stuck = receiver_stuck run.hub s.hub e.routine e.case c at.there (at.case' ∙ ap Some (receives_there c e.wish at.side)) in
+      let stuck = receiver_stuck run.hub s.hub e.routine e.case c at.there (at.found ∙ ap Some (receives_there c e.wish at.side)) in
       (stuck.0, no_more (channel run.hub c).buffer stuck.1);
   senders_wait = λ h.
       let front = some_first (queued run.hub Senders c) h in
       let e : Entry Item = front.0 in
       let at = front_placed Senders c run.hub.line run.hub.wishes e front.1 in
       let sent = sends_there c e.wish at.side in
-      let stuck = sender_stuck run.hub s.hub e.routine e.case c sent.0 at.there (at.case' ∙ ap Some sent.1) in
+      let stuck = sender_stuck run.hub s.hub e.routine e.case c sent.0 at.there (at.found ∙ ap Some sent.1) in
       (stuck.0, omega (arith, s.hub.few c, ltb-false (length (channel run.hub c).buffer) (channel run.hub c).capacity stuck.1));
 }
 
