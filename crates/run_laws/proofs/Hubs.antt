@@ -86,9 +86,6 @@ module _ (h : Hub) (s : SettledHub h) where
       → SettledHub (record { channels = slice_set h.channels c (record (channel h c) { buffer = b }); line = line; wishes = h.wishes })
   buffer_keeps c b line fewer fits receivers senders = keeps (slice_set h.channels c (record (channel h c) { buffer = b })) line fewer few stays
     where
-      x : Channel
-      x = record (channel h c) { buffer = b }
-
       few : (d : ℕ) → length (channel_in (slice_set h.channels c (record (channel h c) { buffer = b })) d).buffer ≤ (channel_in (slice_set h.channels c (record (channel h c) { buffer = b })) d).capacity
       few d = elim (set_cases h.channels c (record (channel h c) { buffer = b }) d) [
         | inl e ↦ subst (λ (y : Channel). length y.buffer ≤ y.capacity) (sym e) (s.few d)

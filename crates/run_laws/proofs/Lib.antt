@@ -9,3 +9,5 @@ pub mod Hubs
 pub mod Links
 pub mod Settled
 pub mod Waits
+pub mod Elements
+pub mod Moves

@@ -1,9 +1,10 @@
 -- The routines, the run queue, the line and the table of cases stay linked.
-use Rattle.std.proofs.Common.{◌≡◌, ℕ, zero, suc, ◌<◌, ◌≤◌, Bool, true, false, cond, List, [], ◌∷◌, ◌++◌, map, length, Some, None, Option, sym, refl, ap, ◌∙◌, subst, arith, inl, inr}
+use Rattle.std.proofs.Common.{◌≡◌, ℕ, zero, suc, ◌<◌, ◌≤◌, Bool, true, false, cond, not, ◌&&◌, ltb, leb, List, [], ◌∷◌, ◌++◌, map, length, Some, None, Option, sym, refl, ap, ◌∙◌, subst, arith, inl, inr}
 use Rattle.std.specs.Prelude.{◌⊎◌, slice_set, slice_index_or, slice_get}
 use Rattle.std.specs.Option.{option_map}
 use Rattle.std.proofs.lemmas.List.{get_or-set_same, get_or-set_other}
-use Rattle.std.proofs.lemmas.Bool.{cases_eq}
+use Rattle.std.proofs.lemmas.Bool.{cases_eq, and_from, lt-ltb, le-leb, not_from_false}
+use Rattle.waiting.specs.Laws.{may_join}
 use Rattle.std.proofs.lemmas.Bool.Decides.{nat_tests}
 use Rattle.lines.specs.declared.line.Kind.{Kind}
 use Rattle.lines.specs.declared.line.Operand.{Operand}
@@ -75,6 +76,11 @@ module _ (n r : ℕ) (rest line : List ℕ) (o : Orderly n (r ∷ rest) line) wh
 
   pub front_is_there : r < n
   front_is_there = grind (arith, nat_tests, counted n (r ∷ rest) line o r, times-own r rest)
+
+  pub front_may_join : (k : ℕ) → k ≤ 8 → may_join r k line ≡ true
+  front_may_join k few =
+      let there : r < 64 = omega (arith, o.few, front_is_there) in
+      and_from (ltb r 64) (leb k 8 && not (waits r line)) (lt-ltb r 64 there) (and_from (leb k 8) (not (waits r line)) (le-leb k 8 few) (not_from_false (waits r line) front_does_not_wait))
 
 -- ---- what a case waits for rests on the kinds of the channels alone
 abbrev kind_carries : Option (Kind × ℕ) → Bool
@@ -185,7 +191,7 @@ closes_linked p c (e ∷ es) run h f o l =
     (subst (λ i. Linked p (release w run).routines (release w run).turns (record h { line = without i h.line })) same (release_linked p w run h there o l))
 
 -- ---- one who is started
-pushed : (xs : List Routine) (y : Routine) (q : ℕ) → ((q ≡ length xs) × (at (xs ++ y ∷ []) q ≡ y)) ⊎ ((q ≡ length xs → ⊥) × (at (xs ++ y ∷ []) q ≡ at xs q))
+pub pushed : (xs : List Routine) (y : Routine) (q : ℕ) → ((q ≡ length xs) × (at (xs ++ y ∷ []) q ≡ y)) ⊎ ((q ≡ length xs → ⊥) × (at (xs ++ y ∷ []) q ≡ at xs q))
 pushed [] y zero = inl (refl, refl)
 pushed [] y (suc q) = inr (λ e. absurd (omega arith), refl)
 pushed (x ∷ xs) y zero = inr (λ e. absurd (omega arith), refl)
@@ -194,9 +200,14 @@ pushed (x ∷ xs) y (suc q) = elim (pushed xs y q) [
   | inr e ↦ inr ((λ f. e.0 (omega arith)), e.1)
 ]
 
-past_end : (xs : List Routine) → at xs (length xs) ≡ nobody
+pub past_end : (xs : List Routine) → at xs (length xs) ≡ nobody
 past_end [] = refl
 past_end (x ∷ xs) = past_end xs
+
+pub routine_past : (xs : List Routine) (r : ℕ) → length xs ≤ r → at xs r ≡ nobody
+routine_past [] r l = refl
+routine_past (x ∷ xs) zero l = absurd (omega arith)
+routine_past (x ∷ xs) (suc r) l = routine_past xs r (omega arith)
 
 pub born_linked : (p : Program) (xs : List Routine) (turns : List ℕ) (h : Hub) (b : ℕ) (x : Routine) → Linked p xs turns h
     → Linked p (xs ++ (born b x ∷ [])) (turns ++ (length xs ∷ [])) h

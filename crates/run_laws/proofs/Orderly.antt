@@ -2,7 +2,7 @@
 use Rattle.std.proofs.Common.{◌≡◌, ℕ, ◌+◌, ◌<◌, ◌≤◌, Bool, true, false, cond, List, [], ◌∷◌, ◌++◌, map, length, drop, Some, None, Option, sym, refl, ap, ◌∙◌, subst, arith, length-append, append-nil}
 use Rattle.std.specs.List.{AllByRecursion, cons_option}
 use Rattle.std.specs.Prelude.{slice_set}
-use Rattle.std.proofs.lemmas.List.{length-set, append_assoc}
+use Rattle.std.proofs.lemmas.List.{length-set, length-map, append_assoc}
 use Rattle.std.proofs.lemmas.Bool.Decides.{nat_tests}
 use Rattle.waiting.specs.declared.wish.Wish.{Wish}
 use Rattle.waiting.specs.declared.wish.Wish.TheVariants as wish
@@ -124,6 +124,23 @@ pub frees_orderly : {X : Type 0} (n c : ℕ) (table : List (Row X)) (turns line 
 frees_orderly n c table turns line o =
     orderly n (turns ++ names (freed c line table)) (without_all (freed c line table) line) o.few
     (λ q. omega (arith, counted n turns line o q, times-append q turns (names (freed c line table)), freed_counts c table (freed c line table) line refl q))
+
+-- all whom a close frees stood in the line, and there is room for their turns
+each_counted : {X : Type 0} (es : List (Entry X)) (line : List ℕ) → ((q : ℕ) → times q (names es) ≤ times q line) → AllByRecursion (λ (e : Entry X). 1 ≤ times e.routine line) es
+each_counted [] line h = tt
+each_counted (e ∷ es) line h = (omega (arith, h e.routine, times-own e.routine (names es)), each_counted es line (λ q. omega (arith, h q)))
+
+pub freed_wait : {X : Type 0} (c : ℕ) (table : List (Row X)) (line : List ℕ) → AllByRecursion (λ (e : Entry X). 1 ≤ times e.routine line) (freed c line table)
+freed_wait c table line = each_counted (freed c line table) line (λ q. omega (arith, freed_counts c table (freed c line table) line refl q))
+
+pub room_to_close : {X : Type 0} (n c : ℕ) (table : List (Row X)) (turns line : List ℕ) → Orderly n turns line → length turns + length (freed c line table) ≤ 64
+room_to_close n c table turns line o =
+    let k = frees_orderly n c table turns line o in
+    omega (arith, k.few, k.count, length-append turns (names (freed c line table)), length-map (freed c line table) (λ e. e.routine))
+
+-- below 64 routines there is room for the turn of one more
+pub room_to_start : (n : ℕ) (turns line : List ℕ) → n < 64 → Orderly n turns line → length turns < 64
+room_to_start n turns line few o = omega (arith, o.count)
 
 -- ---- runs
 abbrev pub OrderlyAt : List Routine → List ℕ → List ℕ → Type 0

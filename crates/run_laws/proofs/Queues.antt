@@ -53,13 +53,13 @@ module _ (s : Side) (c : ℕ) where
   -- ---- a case for each entry
   pub record Placed (t : List (Row Item)) (line : List ℕ) (e : Entry Item) : Type 0 where
     pub there : waits e.routine line ≡ true
-    pub case' : case_in (cases e.routine t) e.case ≡ Some e.wish
+    pub found : case_in (cases e.routine t) e.case ≡ Some e.wish
     pub side : stands s c e.wish ≡ true
 
   record From (r k : ℕ) (ws : Row Item) (e : Entry Item) : Type 0 where
     own : e.routine ≡ r
     low : k ≤ e.case
-    case' : case_in ws (e.case - k) ≡ Some e.wish
+    found : case_in ws (e.case - k) ≡ Some e.wish
     side : stands s c e.wish ≡ true
 
   all_weaker : {A : Type 0} (P Q : A → Type 0) → ((x : A) → P x → Q x) → (xs : List A) → AllByRecursion P xs → AllByRecursion Q xs
@@ -70,12 +70,12 @@ module _ (s : Side) (c : ℕ) where
   from_later r k w ws e f =
       let l = f.low in
       let n : suc (e.case - (k + 1)) ≡ e.case - k = omega arith in
-      record { own = f.own; low = omega arith; case' = subst (λ i. case_in (w ∷ ws) i ≡ Some e.wish) n f.case'; side = f.side }
+      record { own = f.own; low = omega arith; found = subst (λ i. case_in (w ∷ ws) i ≡ Some e.wish) n f.found; side = f.side }
 
   from_here : (r k : ℕ) (w : Wish Item) (ws : Row Item) → stands s c w ≡ true → From r k (Some w ∷ ws) (record { routine = r; case = k; wish = w })
   from_here r k w ws h =
       let n : 0 ≡ k - k = omega arith in
-      record { own = refl; low = omega arith; case' = subst (λ i. case_in (Some w ∷ ws) i ≡ Some w) n refl; side = h }
+      record { own = refl; low = omega arith; found = subst (λ i. case_in (Some w ∷ ws) i ≡ Some w) n refl; side = h }
 
   places_from : (r k : ℕ) (ws : Row Item) → AllByRecursion (From r k ws) (places s c r k ws)
   places_from r k [] = tt
@@ -91,10 +91,10 @@ module _ (s : Side) (c : ℕ) where
   placed_one : (t : List (Row Item)) (line : List ℕ) (q : ℕ) → waits q line ≡ true → (e : Entry Item) → From q 0 (cases q t) e → Placed t line e
   placed_one t line q w e f =
       let n : e.case - 0 ≡ e.case = omega arith in
-      let k : case_in (cases q t) e.case ≡ Some e.wish = subst (λ i. case_in (cases q t) i ≡ Some e.wish) n f.case' in
+      let k : case_in (cases q t) e.case ≡ Some e.wish = subst (λ i. case_in (cases q t) i ≡ Some e.wish) n f.found in
       record {
         there = subst (λ r. waits r line ≡ true) (sym f.own) w;
-        case' = subst (λ r. case_in (cases r t) e.case ≡ Some e.wish) (sym f.own) k;
+        found = subst (λ r. case_in (cases r t) e.case ≡ Some e.wish) (sym f.own) k;
         side = f.side;
       }
 

@@ -121,7 +121,7 @@ module _ (p : Program) where
       rehubs p (release w run).routines (release w run).turns (record (run.hub) { line = without w.routine run.hub.line }) h fits.1 e k
       (release_linked p w run run.hub fits.0 s.orderly s.linked)
 
-  released_hub : (run : Run) (o : Option Release) (h : Hub) → (released_run o (record run { hub = h })).hub ≡ h
+  pub released_hub : (run : Run) (o : Option Release) (h : Hub) → (released_run o (record run { hub = h })).hub ≡ h
   released_hub run None h = refl
   released_hub run (Some w) h = refl
 
@@ -205,9 +205,6 @@ begins_settled p = record {
   hub = record { few = new_few p.channels; stuck = λ r k w. cc; apart = λ r q j k v w n. cc };
 }
   where
-    x : Routine
-    x = first_routine p
-
     awake : (r : ℕ) → false ≡ is_waiting (slice_index_or (first_routine p ∷ []) r nobody).state
     awake zero = refl
     awake (suc r) = refl

@@ -127,11 +127,11 @@ no_more : {A : Type 0} (xs : List A) → some xs ≡ false → xs ≡ []
 no_more [] e = refl
 no_more (x ∷ xs) e = cc
 
-receives_there : (c : ℕ) (w : Wish Item) → stands Receivers c w ≡ true → w ≡ wish.Receive c
+pub receives_there : (c : ℕ) (w : Wish Item) → stands Receivers c w ≡ true → w ≡ wish.Receive c
 receives_there c (wish.Send d f) h = cc
 receives_there c (wish.Receive d) h = ap wish.Receive (eqb-true d c h)
 
-sends_there : (c : ℕ) (w : Wish Item) → stands Senders c w ≡ true → (f : Item) × (w ≡ wish.Send c f)
+pub sends_there : (c : ℕ) (w : Wish Item) → stands Senders c w ≡ true → (f : Item) × (w ≡ wish.Send c f)
 sends_there c (wish.Send d f) h = (f, ap (λ i. wish.Send i f) (eqb-true d c h))
 sends_there c (wish.Receive d) h = cc
 
@@ -142,14 +142,14 @@ channels_guarded p run s c = record {
       let front = some_first (queued run.hub Receivers c) h in
       let e : Entry Item = front.0 in
       let at = front_placed Receivers c run.hub.line run.hub.wishes e front.1 in
-      let stuck = receiver_stuck run.hub s.hub e.routine e.case c at.there (at.case' ∙ ap Some (receives_there c e.wish at.side)) in
+      let stuck = receiver_stuck run.hub s.hub e.routine e.case c at.there (at.found ∙ ap Some (receives_there c e.wish at.side)) in
       (stuck.0, no_more (channel run.hub c).buffer stuck.1);
   senders_wait = λ h.
       let front = some_first (queued run.hub Senders c) h in
       let e : Entry Item = front.0 in
       let at = front_placed Senders c run.hub.line run.hub.wishes e front.1 in
       let sent = sends_there c e.wish at.side in
-      let stuck = sender_stuck run.hub s.hub e.routine e.case c sent.0 at.there (at.case' ∙ ap Some sent.1) in
+      let stuck = sender_stuck run.hub s.hub e.routine e.case c sent.0 at.there (at.found ∙ ap Some sent.1) in
       (stuck.0, omega (arith, s.hub.few c, ltb-false (length (channel run.hub c).buffer) (channel run.hub c).capacity stuck.1));
 }
 

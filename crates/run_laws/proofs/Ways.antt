@@ -61,51 +61,51 @@ lawful_after m q l = go (several q)
     go true = λ qs. l (q ∷ qs)
     go false = l
 
-module _ (p : Program) (run : Run) (m : Meaning) (P : Step → Type 0) (r : ℕ) (w : Ways p run m P r) (quiet' : calm (routine run r).state ≡ true) where
+module _ (p : Program) (run : Run) (m : Meaning) (P : Step → Type 0) (r : ℕ) (w : Ways p run m P r) (rested : calm (routine run r).state ≡ true) where
   by_choice : (n : ℕ) (bs : List Branch) → branches p (routine run r) ≡ bs → P (selecting run m r n (routine run r) bs)
   by_choice n bs h = go (chosen m (query run r (routine run r) bs)) refl
     where
       none : chosen m (query run r (routine run r) bs) ≡ NoneReady → (d : Option (ℕ × ℕ)) → default_from 0 bs ≡ d
           → P (none_ready run (after_choice m (query run r (routine run r) bs)) r n (routine run r) bs d)
-      none e None f = w.waits n bs quiet' h e f
-      none e (Some d) f = w.goes n (Passes d.0 pass.Default) (at_line d.1 (routine run r)) _ quiet' refl (lawful_after m (query run r (routine run r) bs))
+      none e None f = w.waits n bs rested h e f
+      none e (Some d) f = w.goes n (Passes d.0 pass.Default) (at_line d.1 (routine run r)) _ rested refl (lawful_after m (query run r (routine run r) bs))
 
       go : (c : Choice) → chosen m (query run r (routine run r) bs) ≡ c
           → P (chosen_case run (after_choice m (query run r (routine run r) bs)) r n (routine run r) bs c)
       go NoneReady e = none e (default_from 0 bs) refl
-      go (OneReady k) e = w.takes n bs k None quiet' h (ap taken e)
-      go (Asked None) e = w.stays n Departs _ quiet' refl (lawful_after m (query run r (routine run r) bs))
-      go (Asked (Some k)) e = w.takes n bs k (Some (record { routine = r; case = k })) quiet' h (ap taken e)
+      go (OneReady k) e = w.takes n bs k None rested h (ap taken e)
+      go (Asked None) e = w.stays n Departs _ rested refl (lawful_after m (query run r (routine run r) bs))
+      go (Asked (Some k)) e = w.takes n bs k (Some (record { routine = r; case = k })) rested h (ap taken e)
 
   by_closing : (n : ℕ) (o : Option ℕ) → P (closing run m r n (routine run r) o)
-  by_closing n None = w.stays n (Panics NilClose) m quiet' refl (λ l. l)
+  by_closing n None = w.stays n (Panics NilClose) m rested refl (λ l. l)
   by_closing n (Some c) = go (channel run.hub c).closed refl
     where
       go : (b : Bool) → (channel run.hub c).closed ≡ b → P (close_channel run m r n (routine run r) c b)
-      go true e = w.stays n (Panics ClosedTwice) m quiet' refl (λ l. l)
-      go false e = w.closes n c quiet' e
+      go true e = w.stays n (Panics ClosedTwice) m rested refl (λ l. l)
+      go false e = w.closes n c rested e
 
   by_starting : (n b : ℕ) (room : Bool) → ltb (length run.routines) 64 ≡ room → P (starting run m r n (routine run r) b room)
-  by_starting n b false e = w.stays n (Panics Crowded) m quiet' refl (λ l. l)
-  by_starting n b true e = w.starts n b quiet' (ltb-true (length run.routines) 64 e)
+  by_starting n b false e = w.stays n (Panics Crowded) m rested refl (λ l. l)
+  by_starting n b true e = w.starts n b rested (ltb-true (length run.routines) 64 e)
 
   by_line : (n : ℕ) (o : Option Operation) → operation_at p (routine run r) ≡ o
       → P (at_operation run m r n (routine run r) (after_line p (routine run r)) o)
-  by_line n None e = w.ends quiet' (eqb r 0)
+  by_line n None e = w.ends rested (eqb r 0)
   by_line n (Some (Alone x)) e = by_choice n (branches_of (Alone x) (routine run r).line (after_line p (routine run r))) (ap (branches_at (routine run r).line (after_line p (routine run r))) e)
   by_line n (Some (Select k)) e = by_choice n (branches_of (Select k) (routine run r).line (after_line p (routine run r))) (ap (branches_at (routine run r).line (after_line p (routine run r))) e)
   by_line n (Some (Close o)) e = by_closing n (channel_for run.hub.channels (routine run r) o)
   by_line n (Some (Start b)) e = by_starting n b (ltb (length run.routines) 64) refl
-  by_line n (Some (Print v)) e = w.goes n (Prints (value_at (routine run r) v).number) (at_line ((routine run r).line + 1) (routine run r)) m quiet' refl (λ l. l)
-  by_line n (Some (Set v a)) e = w.goes n Plain (plain (Set v a) (routine run r)) m quiet' refl (λ l. l)
-  by_line n (Some (Add v a)) e = w.goes n Plain (plain (Add v a) (routine run r)) m quiet' refl (λ l. l)
-  by_line n (Some (Sub v a)) e = w.goes n Plain (plain (Sub v a) (routine run r)) m quiet' refl (λ l. l)
-  by_line n (Some (Jump t)) e = w.goes n Plain (plain (Jump t) (routine run r)) m quiet' refl (λ l. l)
-  by_line n (Some (JumpNegative v t)) e = w.goes n Plain (plain (JumpNegative v t) (routine run r)) m quiet' refl (λ l. l)
-  by_line n (Some (Hold h c)) e = w.goes n Plain (plain (Hold h c) (routine run r)) m quiet' refl (λ l. l)
-  by_line n (Some (Clear h)) e = w.goes n Plain (plain (Clear h) (routine run r)) m quiet' refl (λ l. l)
-  by_line n (Some (Case x t)) e = w.goes n Plain (plain (Case x t) (routine run r)) m quiet' refl (λ l. l)
-  by_line n (Some (Default t)) e = w.goes n Plain (plain (Default t) (routine run r)) m quiet' refl (λ l. l)
+  by_line n (Some (Print v)) e = w.goes n (Prints (value_at (routine run r) v).number) (at_line ((routine run r).line + 1) (routine run r)) m rested refl (λ l. l)
+  by_line n (Some (Set v a)) e = w.goes n Plain (plain (Set v a) (routine run r)) m rested refl (λ l. l)
+  by_line n (Some (Add v a)) e = w.goes n Plain (plain (Add v a) (routine run r)) m rested refl (λ l. l)
+  by_line n (Some (Sub v a)) e = w.goes n Plain (plain (Sub v a) (routine run r)) m rested refl (λ l. l)
+  by_line n (Some (Jump t)) e = w.goes n Plain (plain (Jump t) (routine run r)) m rested refl (λ l. l)
+  by_line n (Some (JumpNegative v t)) e = w.goes n Plain (plain (JumpNegative v t) (routine run r)) m rested refl (λ l. l)
+  by_line n (Some (Hold h c)) e = w.goes n Plain (plain (Hold h c) (routine run r)) m rested refl (λ l. l)
+  by_line n (Some (Clear h)) e = w.goes n Plain (plain (Clear h) (routine run r)) m rested refl (λ l. l)
+  by_line n (Some (Case x t)) e = w.goes n Plain (plain (Case x t) (routine run r)) m rested refl (λ l. l)
+  by_line n (Some (Default t)) e = w.goes n Plain (plain (Default t) (routine run r)) m rested refl (λ l. l)
 
 module _ (p : Program) (run : Run) (m : Meaning) (P : Step → Type 0) where
   by_turn : (r : ℕ) → Ways p run m P r → (s : State) → (routine run r).state ≡ s → P (turn_in p run m r (routine run r) s)

@@ -2,3 +2,5 @@
 pub mod Orderly
 pub mod Settled
 pub mod Waits
+pub mod Elements
+pub mod Moves

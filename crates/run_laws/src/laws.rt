@@ -2,6 +2,8 @@
 ghost use Rattle.run_laws.specs.Orderly.{BeginsOrderly, StaysOrderly, NeverFewer, ChannelsStay};
 ghost use Rattle.run_laws.specs.Settled.{BeginsSettled, StaysSettled, StaysLawful};
 ghost use Rattle.run_laws.specs.Waits.{NobodyWaitsIdly, StallsWhenAllWait, ChannelsGuarded, SoundHasFewCases};
+ghost use Rattle.run_laws.specs.Elements.{StepKeepsElements, KeepsElements, ElementsInOrder};
+ghost use Rattle.run_laws.specs.Moves.{StepKeepsMoves, KeepsMoves, MovesInOrder};
 
 // At the start and after every step nobody has two turns, or waits twice, or waits and has a turn; no routine is
 // forgotten, and every channel keeps its kind and its capacity.
@@ -23,4 +25,20 @@ pub fn runs_stay_settled()
     ensures waits { NobodyWaitsIdly }
     ensures stalls { StallsWhenAllWait }
     ensures channels { ChannelsGuarded }
+{}
+
+// In a step, in any list of steps, and from the start on: what a channel accepts is what is received from it, in order,
+// and then what it buffers.
+pub fn runs_keep_elements()
+    ensures step { StepKeepsElements }
+    ensures steps { KeepsElements }
+    ensures start { ElementsInOrder }
+{}
+
+// Likewise the moves naming a routine are those that it reports passing by, in order, and then the one that it was
+// released with, while its turn is still to come.
+pub fn runs_keep_moves()
+    ensures step { StepKeepsMoves }
+    ensures steps { KeepsMoves }
+    ensures start { MovesInOrder }
 {}

@@ -3,4 +3,4 @@
 
 mod laws;
 
-pub use laws::{runs_stay_orderly, runs_stay_settled};
+pub use laws::{runs_keep_elements, runs_keep_moves, runs_stay_orderly, runs_stay_settled};
