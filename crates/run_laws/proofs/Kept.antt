@@ -20,7 +20,8 @@ use Rattle.routines.specs.Items.{as_kind}
 use Rattle.runs.specs.Runs.{Hub, Run, Channel, no_channel, routine, channel, queued, text_line, with_buffer, stopped, goes_on}
 use Rattle.runs.specs.Cases.{Branch, wish_of}
 use Rattle.runs.specs.Taking.{Deal, take, send_on, receive_on, dismissals, closed_at}
-use Rattle.runs.specs.Steps.{Taken, taken_by, nothing_moved, released_run, passing, branch_at, branches, born, with_born, ended, ending}
+use Rattle.routines.specs.Registers.{born}
+use Rattle.runs.specs.Steps.{Taken, taken_by, nothing_moved, released_run, passing, branch_at, branches, with_born, ended, ending}
 use Rattle.run_laws.specs.Orderly.{NeverFewer, ChannelsStay, kinds}
 use Rattle.run_laws.proofs.Ways.{by_ways}
 use Rattle.run_laws.proofs.Orderly.{past, closing_run, release_all_hub, release_all_length}

@@ -28,7 +28,8 @@ use Rattle.routines.specs.Registers.{value_at, handle_at, in_state}
 use Rattle.runs.specs.Runs.{Channel, Hub, Run, nobody, routine, release, release_all}
 use Rattle.runs.specs.Cases.{Branch, is_value, carries_values, meant, channel_for, wish_of, wishes_of}
 use Rattle.runs.specs.Taking.{dismissed}
-use Rattle.runs.specs.Steps.{branches, born}
+use Rattle.routines.specs.Registers.{born}
+use Rattle.runs.specs.Steps.{branches}
 use Rattle.runs.specs.Orderly.{Orderly}
 use Rattle.run_laws.specs.Orderly.{kinds}
 use Rattle.run_laws.specs.Settled.{is_waiting, has_turn, Linked}

@@ -28,7 +28,8 @@ use Rattle.routines.specs.Registers.{in_state, at_line}
 use Rattle.runs.specs.Runs.{Hub, Run, nobody, channel, routine, queued, text_line, release, release_all, goes_on, started}
 use Rattle.runs.specs.Cases.{Branch, wish_of}
 use Rattle.runs.specs.Taking.{Deal, take, send_on, receive_on, dismissed, leaving, closed_at}
-use Rattle.runs.specs.Steps.{Step, shown, taken_by, nothing_moved, released_run, either, accepted_of, received_of, passing, branch_at, branches, waiting, born, with_born, ended, ending, step}
+use Rattle.routines.specs.Registers.{born}
+use Rattle.runs.specs.Steps.{Step, shown, taken_by, nothing_moved, released_run, either, accepted_of, received_of, passing, branch_at, branches, waiting, with_born, ended, ending, step}
 use Rattle.run_laws.specs.Settled.{is_waiting, Settled}
 use Rattle.run_laws.specs.Elements.{reports, run_after}
 use Rattle.run_laws.specs.Moves.{Moved, sends, receives, naming, moves, move_shown, move_done, passed_by, move_due, due_in, due, StepKeepsMoves, all_moves, all_passed, KeepsMoves, MovesInOrder}

@@ -25,7 +25,8 @@ use Rattle.reports.specs.declared.report.Picked.{Picked}
 use Rattle.runs.specs.Runs.{Hub, Parts, Run, routine, channel, queued, text_line, release, release_all, goes_on}
 use Rattle.runs.specs.Cases.{Branch, wish_of}
 use Rattle.runs.specs.Taking.{Deal, take, send_on, receive_on, dismissed, leaving, dismissals, closed_at}
-use Rattle.runs.specs.Steps.{Taken, taken_by, nothing_moved, released_run, written_by, passing, branch_at, branches, waiting, born, with_born, ended, ending}
+use Rattle.routines.specs.Registers.{born}
+use Rattle.runs.specs.Steps.{Taken, taken_by, nothing_moved, released_run, written_by, passing, branch_at, branches, waiting, with_born, ended, ending}
 use Rattle.runs.specs.Orderly.{Orderly, OrderlyRun}
 use Rattle.run_laws.specs.Orderly.{BeginsOrderly, StaysOrderly}
 use Rattle.run_laws.proofs.Ways.{Ways, by_ways}

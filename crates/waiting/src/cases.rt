@@ -40,7 +40,8 @@ pub(crate) struct Cases<'a, X> {
 }
 
 impl<'a, X: Copy> Cases<'a, X> {
-    // The first of their places in that queue.
+    // The first of their places in that queue. Apart from `count_in`: what both do is `place`; the chain before it has its closure in
+    // its type, which no function can name as its result. `as u8` loses nothing, since there are at most 8 cases.
     pub(crate) fn first_in(&self, q: Queue) -> Option<Entry<X>>
         ensures { result ≡ first_of (places q.side q.channel self.now.routine 0 self.now.wishes.now) }
     {

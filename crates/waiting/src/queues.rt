@@ -16,7 +16,8 @@ use std::alloc::{AllocError, Global};
 
 // Writes a routine's cases into its row, which has room for them: joining needs no memory. A loop, since
 // `extend_from_slice` succeeds where there is room, but its contract lets the room grow: it does not say that no memory is
-// taken, and a step may take none.
+// taken, and a step may take none. That there is room, and that the room stays (here and in `strike`), are clauses: a struct of a
+// list with its room would stand round one field, for one call each.
 fn lay<X: Copy>(row: &mut Vec<Option<Wish<X>>>, wishes: &[Option<Wish<X>>])
     requires { length wishes.now ≤ vec_capacity row.old }
     ensures items { row.new.items ≡ wishes.now }
