@@ -1,0 +1,6 @@
+pub mod Makes
+pub mod Rows
+pub mod Sets
+pub mod Dealing
+pub mod Selects
+pub mod Dismissals
