@@ -2,7 +2,7 @@ use Rattle.std.proofs.Common.{arith, ap, ◌∙◌, length, ◌≤◌, ◌-◌, 
 use Rattle.std.proofs.lemmas.List.{with_items_is}
 use Rattle.machine.specs.Memory.{run_of}
 use Rattle.hub.specs.Deals.{leaving_from}
-use Rattle.hub.specs.contracts.memory.Memory.{the_view}
+use Rattle.machine.specs.contracts.memory.Memory.{the_view}
 use Rattle.machine.proofs.Dismissals.{Freed, frees, dismisses}
 use Rattle.machine.proofs.memory.Memory.dismiss.Goals as goal
 use Rattle.machine.proofs.memory.Memory.dismiss.Goals.{After-deref}
