@@ -42,7 +42,10 @@ impl Memory {
         requires { Front r self.old }
         ensures { self.new ≡ goes_on r x self.old }
     {
-        self.routines[r as usize] = Routine { state: State::Ready, ..x };
+        self.routines[r as usize] = Routine {
+            state: State::Ready,
+            ..x
+        };
         self.turns.rotate_left(1);
     }
 
@@ -70,7 +73,12 @@ impl Memory {
         ensures { self.new ≡ with_born body x self.old }
     {
         self.turns.push_back_reserved(self.routines.len() as u8);
-        self.routines.push_reserved(Routine { body, line: 0, state: State::Ready, ..x });
+        self.routines.push_reserved(Routine {
+            body,
+            line: 0,
+            state: State::Ready,
+            ..x
+        });
     }
 
     // The routine whose turn it is has ended.
@@ -78,7 +86,10 @@ impl Memory {
         requires { Front r self.old }
         ensures { self.new ≡ ended r x self.old }
     {
-        self.routines[r as usize] = Routine { state: State::Ended, ..x };
+        self.routines[r as usize] = Routine {
+            state: State::Ended,
+            ..x
+        };
         let _ = self.turns.pop_front();
     }
 
