@@ -6,7 +6,7 @@ use std::marker::Model;
 // with room for 8, so that who joins needs no memory. No queue is kept: each is read from these two. A row is a Vec and
 // no ArrayVec of 8 (tried: making one asks that 8 cases of type X fit in memory, which callers of `new` would have to show).
 // Two things are told again, as sets of routines: who waits at all, and in the marks, for each queue, who stands in it. So
-// a call does not look through the line for the cases of those who wait elsewhere: its time does not grow with their number.
+// no call reads the cases of those who wait elsewhere, and where one routine alone stands in a queue its front is at hand.
 #[derive(Drop)]
 pub struct Waiting<X> {
     pub(crate) line: Vec<u8>,
