@@ -91,7 +91,14 @@ impl Memory {
     {
         let x = turn.routine;
         let number = x.value(register).number;
-        self.done(turn, Routine { line: x.line + 1, ..x }, Deed::Prints(number))
+        self.done(
+            turn,
+            Routine {
+                line: x.line + 1,
+                ..x
+            },
+            Deed::Prints(number),
+        )
     }
 
     // Starts a routine in that body.
@@ -106,7 +113,14 @@ impl Memory {
         let number = self.routines.len() as u8;
         let x = turn.routine;
         self.start(body, x);
-        self.done(turn, Routine { line: x.line + 1, ..x }, Deed::Starts(number))
+        self.done(
+            turn,
+            Routine {
+                line: x.line + 1,
+                ..x
+            },
+            Deed::Starts(number),
+        )
     }
 
     // The body's end; that of routine 0 finishes the run.

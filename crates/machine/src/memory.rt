@@ -9,17 +9,16 @@ use hub::Hub;
 use routines::{Item, Release, Routine, State};
 use std::collections::VecDeque;
 use std::marker::Model;
-use waiting::{Entry, Wish};
+use waiting::Entry;
 
 // The routines by their numbers, the channels with those who wait, and the run queue, at whose front the routine stands whose
-// turn it is. A step allocates nothing: `row` is for the cases of its select, `freed` for those whom its close releases.
+// turn it is. A step allocates nothing: `freed` is for those whom its close releases.
 #[derive(Drop)]
 pub(crate) struct Memory {
     pub(crate) routines: Vec<Routine>,
     pub(crate) hub: Hub,
     pub(crate) turns: VecDeque<u8>,
     pub(crate) over: bool,
-    pub(crate) row: Vec<Option<Wish<Item>>>,
     pub(crate) freed: Vec<Entry<Item>>,
 }
 
@@ -33,7 +32,7 @@ impl Model for Memory {
 
     ghost view = { λ m. record { routines = m.routines.items; hub = m.hub; turns = m.turns.items; over = m.over } };
 
-    ghost invariant = { λ m. (64 ≤ vec_capacity m.routines) × (64 ≤ deque_capacity m.turns) × (8 ≤ vec_capacity m.row) × (64 ≤ vec_capacity m.freed) };
+    ghost invariant = { λ m. (64 ≤ vec_capacity m.routines) × (64 ≤ deque_capacity m.turns) × (64 ≤ vec_capacity m.freed) };
 }
 
 impl Memory {
@@ -42,7 +41,10 @@ impl Memory {
         requires { Front r self.old }
         ensures { self.new ≡ goes_on r x self.old }
     {
-        self.routines[r as usize] = Routine { state: State::Ready, ..x };
+        self.routines[r as usize] = Routine {
+            state: State::Ready,
+            ..x
+        };
         self.turns.rotate_left(1);
     }
 
@@ -70,7 +72,12 @@ impl Memory {
         ensures { self.new ≡ with_born body x self.old }
     {
         self.turns.push_back_reserved(self.routines.len() as u8);
-        self.routines.push_reserved(Routine { body, line: 0, state: State::Ready, ..x });
+        self.routines.push_reserved(Routine {
+            body,
+            line: 0,
+            state: State::Ready,
+            ..x
+        });
     }
 
     // The routine whose turn it is has ended.
@@ -78,7 +85,10 @@ impl Memory {
         requires { Front r self.old }
         ensures { self.new ≡ ended r x self.old }
     {
-        self.routines[r as usize] = Routine { state: State::Ended, ..x };
+        self.routines[r as usize] = Routine {
+            state: State::Ended,
+            ..x
+        };
         let _ = self.turns.pop_front();
     }
 

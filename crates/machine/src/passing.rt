@@ -14,10 +14,10 @@ ghost use Rattle.machine.specs.Memory.{Front, Made, seen_run, settled, settled_r
 ghost use Rattle.machine.specs.Needs.{Low};
 
 use crate::cases::{exchange_of, target_of, wish_of};
-use hub::Deal;
 use crate::memory::Memory;
 use crate::turn::{Turn, accepted, pass_of, received};
 use elements::{Handle, Value};
+use hub::Deal;
 use linking::{Exchange, Operation};
 use reports::{Deed, Event, Panic, Picked, Report};
 use routines::{Item, Passed, Release, Routine, State};

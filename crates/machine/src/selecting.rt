@@ -24,12 +24,7 @@ use waiting::Wish;
 
 impl Memory {
     // No case can go: the default is passed, and without one the routine waits.
-    fn none_ready(
-        &mut self,
-        turn: &Turn,
-        cases: &[Operation],
-        row: &[Option<Wish<Item>>],
-    ) -> Report
+    fn none_ready(&mut self, turn: &Turn, cases: &[Operation], row: &[Option<Wish<Item>>]) -> Report
         requires front { Front turn.now.number self.old }
         requires short { length cases.now ≤ 8 }
         requires joins { may_join turn.now.number (length row.now) self.old.hub.line ≡ true }
