@@ -4,3 +4,4 @@ pub mod Sets
 pub mod Dealing
 pub mod Selects
 pub mod Dismissals
+pub mod Alone

@@ -2,6 +2,7 @@
 use Rattle.std.specs.Prelude.{◌≡◌, ℕ, ◌<◌, ◌≤◌, Bool, List, [], ◌∷◌, length, map, drop, Some, None, Option, slice_set}
 use Rattle.elements.specs.declared.value.Value.{Value}
 use Rattle.elements.specs.declared.handle.Handle.{Handle}
+use Rattle.pickers.specs.Meaning.{Meaning}
 use Rattle.reports.specs.declared.report.Deed.{Deed}
 use Rattle.reports.specs.declared.report.Deed.TheVariants.{Panics, Passes, Waits}
 use Rattle.reports.specs.declared.report.Pass.TheVariants as pass
@@ -103,3 +104,7 @@ passed_on r b q run = goes_on r (at_line b.target (written_by b.exchange q (rout
 abbrev pub passed_report : ℕ → ℕ → ℕ → Passed → Report
 passed_report r p k Broken = told r p (Panics ClosedSend)
 passed_report r p k q = told r p (Passes k (shown q))
+
+-- a step that leaves all cells alone was made, whatever they are
+abbrev pub MadeBy : (Run → Meaning → Step) → Report → Parts Board → Parts Board → Type 0
+MadeBy f answer old new = (m : Meaning) (vs : List Value) (hs : List Handle) → Made (f (seen_run old vs hs) m) answer old new vs vs hs hs

@@ -1,10 +1,10 @@
 -- What an operation of a sound program is known to be, where a step needs it.
-use Rattle.std.specs.Prelude.{ℕ, ◌+◌, ◌^◌, ◌<◌, ◌≤◌, List, length, take, drop, Some, None, Option}
+use Rattle.std.specs.Prelude.{ℕ, Bool, true, false, ◌+◌, ◌^◌, ◌<◌, ◌≤◌, List, length, take, drop, Some, None, Option}
 use Rattle.std.specs.List.{All}
 use Rattle.lines.specs.declared.line.Operand.{Operand}
 use Rattle.lines.specs.declared.line.Operand.TheVariants.{Named, Held}
 use Rattle.linking.specs.declared.operation.Operation.{Operation}
-use Rattle.linking.specs.declared.operation.Operation.TheVariants.{Hold, Alone, Case, Close, Select}
+use Rattle.linking.specs.declared.operation.Operation.TheVariants.{Hold, Alone, Case, Close, Select, Start, Print}
 use Rattle.linking.specs.declared.operation.Exchange.{Exchange}
 use Rattle.linking.specs.declared.operation.Exchange.TheVariants.{Send, Receive, SendHandle, ReceiveHandle}
 use Rattle.runs.specs.Cases.{branch}
@@ -41,3 +41,18 @@ HasCases n _ rest = Unit {0}
 abbrev pub Fit : ℕ → List Operation → ℕ → Option Operation → Type 0
 Fit n ops i None = Unit {0}
 Fit n ops i (Some o) = LowOperation n o × (i + 1 < 2 ^ 32) × HasCases n o (drop (i + 1) ops)
+
+-- at no exchange and no select
+abbrev pub Quiet : Option Operation → Type 0
+Quiet (Some (Alone e)) = ⊥
+Quiet (Some (Select k)) = ⊥
+Quiet _ = Unit {0}
+
+-- it only writes registers or jumps
+abbrev pub is_plain : Operation → Bool
+is_plain (Alone e) = false
+is_plain (Select k) = false
+is_plain (Close o) = false
+is_plain (Start b) = false
+is_plain (Print v) = false
+is_plain _ = true

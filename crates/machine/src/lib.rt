@@ -8,3 +8,4 @@ mod memory;
 mod passing;
 mod selecting;
 mod turn;
+mod turns;

@@ -9,17 +9,16 @@ use hub::Hub;
 use routines::{Item, Release, Routine, State};
 use std::collections::VecDeque;
 use std::marker::Model;
-use waiting::{Entry, Wish};
+use waiting::Entry;
 
 // The routines by their numbers, the channels with those who wait, and the run queue, at whose front the routine stands whose
-// turn it is. A step allocates nothing: `row` is for the cases of its select, `freed` for those whom its close releases.
+// turn it is. A step allocates nothing: `freed` is for those whom its close releases.
 #[derive(Drop)]
 pub(crate) struct Memory {
     pub(crate) routines: Vec<Routine>,
     pub(crate) hub: Hub,
     pub(crate) turns: VecDeque<u8>,
     pub(crate) over: bool,
-    pub(crate) row: Vec<Option<Wish<Item>>>,
     pub(crate) freed: Vec<Entry<Item>>,
 }
 
@@ -33,7 +32,7 @@ impl Model for Memory {
 
     ghost view = { λ m. record { routines = m.routines.items; hub = m.hub; turns = m.turns.items; over = m.over } };
 
-    ghost invariant = { λ m. (64 ≤ vec_capacity m.routines) × (64 ≤ deque_capacity m.turns) × (8 ≤ vec_capacity m.row) × (64 ≤ vec_capacity m.freed) };
+    ghost invariant = { λ m. (64 ≤ vec_capacity m.routines) × (64 ≤ deque_capacity m.turns) × (64 ≤ vec_capacity m.freed) };
 }
 
 impl Memory {
