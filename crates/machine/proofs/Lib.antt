@@ -5,3 +5,4 @@ pub mod Dealing
 pub mod Selects
 pub mod Dismissals
 pub mod Alone
+pub mod Fits

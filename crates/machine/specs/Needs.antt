@@ -40,7 +40,7 @@ HasCases n _ rest = Unit {0}
 
 abbrev pub Fit : ℕ → List Operation → ℕ → Option Operation → Type 0
 Fit n ops i None = Unit {0}
-Fit n ops i (Some o) = LowOperation n o × (i + 1 < 2 ^ 32) × HasCases n o (drop (i + 1) ops)
+Fit n ops i (Some o) = LowOperation n o × (i + 1 < 2 ^ 32) × (i < length ops) × HasCases n o (drop (i + 1) ops)
 
 -- at no exchange and no select
 abbrev pub Quiet : Option Operation → Type 0

@@ -9,3 +9,4 @@ mod passing;
 mod selecting;
 mod turn;
 mod turns;
+mod whole_turns;

@@ -51,7 +51,7 @@ impl Memory {
         requires front { Front turn.now.number self.old }
         requires orderly { Orderly (length self.old.routines) self.old.turns self.old.hub.line }
         requires few { length self.old.hub.ports ≤ 32 }
-        requires next { turn.now.routine.line + 1 < 2 ^ 64 }
+        requires next { IfSome operation (λ _. turn.now.routine.line + 1 < 2 ^ 64) }
         requires low { IfSome operation (LowOperation (length self.old.hub.ports)) }
         requires quiet { Quiet operation }
         requires end { operation ≡ None → turn.now.line ≡ 0 }
