@@ -1,17 +1,21 @@
 // The turn of the routine at the front of the run queue.
-ghost use Rattle.std.specs.Prelude.{◌≡◌, ◌+◌, ◌≤◌, drop, length, None};
+ghost use Rattle.std.specs.Prelude.{◌≡◌, ◌+◌, ◌<◌, ◌≤◌, drop, length, None, IfSome};
+ghost use Rattle.reports.specs.declared.report.Event.TheVariants.{Stall};
 ghost use Rattle.runs.specs.Orderly.{Orderly};
-ghost use Rattle.runs.specs.Steps.{at_operation};
+ghost use Rattle.runs.specs.Runs.{living, stopped};
+ghost use Rattle.runs.specs.Steps.{at_operation, branch_at, branches_at};
 ghost use Rattle.hub.specs.Boards.{Enough};
-ghost use Rattle.machine.specs.Memory.{Front, Made, seen_run};
+ghost use Rattle.machine.specs.Memory.{Front, Made, seen_run, passed_on, passed_report};
 ghost use Rattle.machine.specs.Needs.{Fit};
 
 use crate::memory::Memory;
-use crate::turn::Turn;
+use crate::cases::{exchange_of, target_of};
+use crate::turn::{Turn, pass_of};
 use elements::{Handle, Value};
-use linking::Operation;
+use linking::{Exchange, Operation};
 use pickers::Picker;
-use reports::Report;
+use reports::{Deed, Event, Panic, Report};
+use routines::Passed;
 
 impl Memory {
     // A turn at that operation of a body, or at the body's end. A send or a receive is a select of one case, which goes on
@@ -45,6 +49,66 @@ impl Memory {
                 self.select(turn, cases, picker, values, handles)
             }
             _ => self.act_alone(turn, operation),
+        }
+    }
+}
+
+// What case k of that operation exchanges, and the line that it goes on to; there is none at another line.
+fn branch_of(
+    operation: Option<Operation>,
+    operations: &[Operation],
+    line: usize,
+    k: u8,
+) -> (Option<Exchange<usize>>, usize)
+    requires { IfSome operation (λ o. line < length operations.now) }
+    ensures { record { exchange = result.0; target = result.1 } ≡ branch_at (branches_at line (drop (line + 1) operations.now) operation) k }
+{
+    match operation {
+        Some(Operation::Alone(exchange)) if k == 0 => (Some(exchange), line + 1),
+        Some(Operation::Select(count)) if u32::from(k) < count => {
+            match operations[line + 1..].get(k as usize) {
+                Some(case) => (exchange_of(case), target_of(case)),
+                None => (None, 0),
+            }
+        }
+        _ => (None, 0),
+    }
+}
+
+impl Memory {
+    // The turn of a routine that was released: it passes by the case that it was released with. Its elements moved then.
+    fn pass_on(
+        &mut self,
+        turn: &Turn,
+        exchange: Option<Exchange<usize>>,
+        target: usize,
+        k: u8,
+        passed: Passed,
+    ) -> Report
+        requires { Front turn.now.number self.old }
+        ensures report { result ≡ passed_report turn.now.number turn.now.line k passed }
+        ensures memory { self.new ≡ passed_on turn.now.number (record { exchange = exchange; target = target }) passed self.old }
+    {
+        if let Passed::Broken = passed {
+            return self.halt(turn, Deed::Panics(Panic::ClosedSend));
+        }
+        self.pass(turn.number, exchange, target, passed);
+        turn.only(Deed::Passes(k, pass_of(passed)))
+    }
+
+    // Nobody has a turn: the run is over.
+    fn stall(&mut self) -> Report
+        requires { length self.old.routines ≤ 64 }
+        ensures report { result ≡ record { event = Stall (living self.old); picked = None; accepted = None; received = None } }
+        ensures memory { self.new ≡ stopped self.old }
+    {
+        let living = self.living();
+        self.stop();
+        Report {
+            event: Event::Stall(living),
+            picked: None,
+            accepted: None,
+            received: None,
         }
     }
 }
