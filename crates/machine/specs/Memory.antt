@@ -13,7 +13,8 @@ use Rattle.routines.specs.declared.routine.Passed.{Passed}
 use Rattle.routines.specs.declared.routine.Passed.TheVariants.{Broken}
 use Rattle.routines.specs.declared.routine.Release.{Release}
 use Rattle.routines.specs.declared.routine.Routine.{Routine}
-use Rattle.routines.specs.declared.routine.State.TheVariants.{Waiting}
+use Rattle.routines.specs.declared.routine.State.{State}
+use Rattle.routines.specs.declared.routine.State.TheVariants.{Waiting, Released}
 use Rattle.routines.specs.Registers.{at_line, in_state}
 use Rattle.waiting.specs.declared.wish.Entry.{Entry}
 use Rattle.waiting.specs.Queues.{Row}
@@ -108,3 +109,8 @@ passed_report r p k q = told r p (Passes k (shown q))
 -- a step that leaves all cells alone was made, whatever they are
 abbrev pub MadeBy : (Run → Meaning → Step) → Report → Parts Board → Parts Board → Type 0
 MadeBy f answer old new = (m : Meaning) (vs : List Value) (hs : List Handle) → Made (f (seen_run old vs hs) m) answer old new vs vs hs hs
+
+-- by which case a routine in that state was released, and how it passes by it
+abbrev pub released_with : State → Option (ℕ × Passed)
+released_with (Released k q) = Some (k, q)
+released_with _ = None

@@ -2,20 +2,20 @@
 ghost use Rattle.std.specs.Prelude.{◌≡◌, ◌+◌, ◌<◌, ◌≤◌, drop, length, None, IfSome};
 ghost use Rattle.reports.specs.declared.report.Event.TheVariants.{Stall};
 ghost use Rattle.runs.specs.Orderly.{Orderly};
-ghost use Rattle.runs.specs.Runs.{living, stopped};
-ghost use Rattle.runs.specs.Steps.{at_operation, branch_at, branches_at};
+ghost use Rattle.runs.specs.Runs.{living, stopped, routine, operation_at, text_line};
+ghost use Rattle.runs.specs.Steps.{at_operation, branch_at, branches_at, turn_in, step};
 ghost use Rattle.hub.specs.Boards.{Enough};
-ghost use Rattle.machine.specs.Memory.{Front, Made, seen_run, passed_on, passed_report};
+ghost use Rattle.machine.specs.Memory.{Front, Made, seen_run, passed_on, passed_report, released_with};
 ghost use Rattle.machine.specs.Needs.{Fit};
 
 use crate::memory::Memory;
 use crate::cases::{exchange_of, target_of};
 use crate::turn::{Turn, pass_of};
 use elements::{Handle, Value};
-use linking::{Exchange, Operation};
+use linking::{Exchange, Linked, Operation};
 use pickers::Picker;
 use reports::{Deed, Event, Panic, Report};
-use routines::Passed;
+use routines::{Passed, Routine, State};
 
 impl Memory {
     // A turn at that operation of a body, or at the body's end. A send or a receive is a select of one case, which goes on
@@ -109,6 +109,82 @@ impl Memory {
             picked: None,
             accepted: None,
             received: None,
+        }
+    }
+}
+
+// The text line of that operation of a body, counted from 1, and 0 at the body's end.
+fn text_line(linked: &Linked, x: &Routine, operation: Option<Operation>) -> u32
+    requires { operation_at linked.now.program x.now ≡ operation }
+    ensures { result ≡ text_line linked.now.program x.now }
+{
+    match operation {
+        Some(_) => (linked.opening_line(x.body) + 1 + x.line) as u32,
+        None => 0,
+    }
+}
+
+// By which case a routine in that state was released, and how it passes by it, if it was.
+fn released_with(state: State) -> Option<(u8, Passed)>
+    ensures { result ≡ released_with state }
+{
+    match state {
+        State::Released(k, passed) => Some((k, passed)),
+        _ => None,
+    }
+}
+
+impl Memory {
+    // The turn of that routine, which is at the front of the run queue.
+    fn turn_of<P: Picker>(
+        &mut self,
+        number: u8,
+        linked: &Linked,
+        picker: &mut P,
+        values: &mut [Value],
+        handles: &mut [Handle],
+    ) -> Report
+        requires enough { Enough values.old handles.old }
+        requires orderly { Orderly (length self.old.routines) self.old.turns self.old.hub.line }
+        requires front { Front number self.old }
+        requires channels { length self.old.hub.ports ≡ length linked.now.program.channels }
+        ensures made { Made (turn_in linked.now.program (seen_run self.old values.old handles.old) (P.meaning picker.old) number (routine self.old number) (routine self.old number).state) result self.old self.new values.old values.new handles.old handles.new }
+        ensures then { P.meaning picker.new ≡ (turn_in linked.now.program (seen_run self.old values.old handles.old) (P.meaning picker.old) number (routine self.old number) (routine self.old number).state).meaning }
+    {
+        let routine = self.routines[number as usize];
+        let operations = linked.operations(routine.body);
+        let operation = operations.get(routine.line).copied();
+        let turn = Turn {
+            number,
+            line: text_line(linked, &routine, operation),
+            routine,
+        };
+        match released_with(routine.state) {
+            Some((k, passed)) => {
+                let (exchange, target) = branch_of(operation, operations, routine.line, k);
+                self.pass_on(&turn, exchange, target, k, passed)
+            }
+            None => self.act(&turn, operation, operations, picker, values, handles),
+        }
+    }
+
+    // The turn of the first routine of the run queue; with nobody in it the run stalls.
+    pub(crate) fn turn<P: Picker>(
+        &mut self,
+        linked: &Linked,
+        picker: &mut P,
+        values: &mut [Value],
+        handles: &mut [Handle],
+    ) -> Report
+        requires enough { Enough values.old handles.old }
+        requires orderly { Orderly (length self.old.routines) self.old.turns self.old.hub.line }
+        requires channels { length self.old.hub.ports ≡ length linked.now.program.channels }
+        ensures made { Made (step linked.now.program (seen_run self.old values.old handles.old) (P.meaning picker.old)) result self.old self.new values.old values.new handles.old handles.new }
+        ensures then { P.meaning picker.new ≡ (step linked.now.program (seen_run self.old values.old handles.old) (P.meaning picker.old)).meaning }
+    {
+        match self.turns.front() {
+            None => self.stall(),
+            Some(&number) => self.turn_of(number, linked, picker, values, handles),
         }
     }
 }
