@@ -6,3 +6,4 @@ pub mod Selects
 pub mod Dismissals
 pub mod Alone
 pub mod Fits
+pub mod Lines
