@@ -7,3 +7,4 @@ pub mod Dismissals
 pub mod Alone
 pub mod Fits
 pub mod Lines
+pub mod Turning

@@ -1,5 +1,6 @@
 // The turn of the routine at the front of the run queue.
 ghost use Rattle.std.specs.Prelude.{◌≡◌, ◌+◌, ◌<◌, ◌≤◌, drop, length, None, IfSome};
+ghost use Rattle.std.specs.List.{slice_get};
 ghost use Rattle.reports.specs.declared.report.Event.TheVariants.{Stall};
 ghost use Rattle.runs.specs.Orderly.{Orderly};
 ghost use Rattle.runs.specs.Runs.{living, stopped, routine, operation_at, text_line};
@@ -124,6 +125,13 @@ fn text_line(linked: &Linked, x: &Routine, operation: Option<Operation>) -> u32
     }
 }
 
+// The operation at that line of a body, if it is not at the end.
+fn operation_at(operations: &[Operation], line: usize) -> Option<Operation>
+    ensures { result ≡ slice_get operations.now line }
+{
+    operations.get(line).copied()
+}
+
 // By which case a routine in that state was released, and how it passes by it, if it was.
 fn released_with(state: State) -> Option<(u8, Passed)>
     ensures { result ≡ released_with state }
@@ -153,7 +161,7 @@ impl Memory {
     {
         let routine = self.routines[number as usize];
         let operations = linked.operations(routine.body);
-        let operation = operations.get(routine.line).copied();
+        let operation = operation_at(operations, routine.line);
         let turn = Turn {
             number,
             line: text_line(linked, &routine, operation),
