@@ -22,7 +22,7 @@ use Rattle.runs.specs.Steps.{Step, Taken, taken_by, passes, passing, released_ru
 use Rattle.hub.specs.declared.port.Port.{Port}
 use Rattle.hub.specs.Boards.{Board, seen, seen_port}
 use Rattle.hub.specs.Deals.{drawn_from, stored_in, values_after, handles_after, board_after}
-use Rattle.machine.specs.Memory.{Made, marked, memory_of, seen_run, settled, settled_report}
+use Rattle.machine.specs.Memory.{Made, marked, seen_run, settled, settled_report}
 
 -- each channel has the mark that it has
 pub marked_same : (vs : List Value) (hs : List Handle) (ps : List Port) → marked (map (seen_port vs hs) ps) ps ≡ ps

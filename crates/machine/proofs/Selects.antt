@@ -7,7 +7,7 @@ use Rattle.linking.specs.declared.operation.Operation.{Operation}
 use Rattle.waiting.specs.Queues.{Row}
 use Rattle.pickers.specs.Meaning.{Meaning}
 use Rattle.pickers.specs.Sets.{has, OneOf}
-use Rattle.pickers.specs.Choosing.{chosen, after_choice, taken}
+use Rattle.pickers.specs.Choosing.{chosen, after_choice}
 use Rattle.pickers.specs.declared.choosing.Choice.{Choice}
 use Rattle.pickers.specs.declared.choosing.Choice.TheVariants.{NoneReady, OneReady, Asked}
 use Rattle.pickers.specs.declared.picker.Query.{Query}
@@ -21,7 +21,7 @@ use Rattle.routines.specs.declared.routine.Routine.{Routine}
 use Rattle.runs.specs.Runs.{Parts, Run, Hub, stopped}
 use Rattle.runs.specs.Cases.{Branch, branch, can_go, wish_of, wishes_of, ready_set, default_from}
 use Rattle.runs.specs.Taking.{take}
-use Rattle.runs.specs.Steps.{Step, Taken, taken_by, only, query, selecting, chosen_case, none_ready, passing, branch_at}
+use Rattle.runs.specs.Steps.{Taken, taken_by, only, query, selecting, chosen_case, none_ready, passing, branch_at}
 use Rattle.hub.specs.Boards.{Board, seen}
 use Rattle.machine.specs.Memory.{Made, seen_run, told, unready, unready_report}
 use Rattle.machine.proofs.Makes.{still}

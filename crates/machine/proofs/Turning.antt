@@ -1,19 +1,20 @@
 -- The turn of a routine by its state.
-use Rattle.std.proofs.Common.{◌≡◌, ℕ, List, Some, None, Option, refl, sym, ap, ◌∙◌}
+use Rattle.std.proofs.Common.{◌≡◌, ℕ, List, [], Some, None, refl, sym, ap, subst}
 use Rattle.elements.specs.declared.value.Value.{Value}
 use Rattle.elements.specs.declared.handle.Handle.{Handle}
 use Rattle.words.proofs.Same.{some_same}
 use Rattle.linking.specs.Programs.{Program}
 use Rattle.pickers.specs.Meaning.{Meaning}
+use Rattle.reports.specs.declared.report.Event.TheVariants.{Stall}
 use Rattle.reports.specs.declared.report.Report.{Report}
 use Rattle.routines.specs.declared.routine.Passed.{Passed}
 use Rattle.routines.specs.declared.routine.Passed.TheVariants.{Sent, Received, Drained, Broken}
 use Rattle.routines.specs.declared.routine.Routine.{Routine}
 use Rattle.routines.specs.declared.routine.State.{State}
 use Rattle.routines.specs.declared.routine.State.TheVariants.{Ready, Waiting, Released, Ended}
-use Rattle.runs.specs.Runs.{Parts, Run, operation_at, text_line}
+use Rattle.runs.specs.Runs.{Parts, Run, operation_at, text_line, living, stopped}
 use Rattle.runs.specs.Cases.{Branch}
-use Rattle.runs.specs.Steps.{passing, nothing_moved, branch_at, branches, after_line, at_operation, turn_in}
+use Rattle.runs.specs.Steps.{passing, nothing_moved, branch_at, branches, after_line, at_operation, turn_in, turn, step}
 use Rattle.hub.specs.Boards.{Board}
 use Rattle.machine.specs.Memory.{Made, seen_run, passed_on, passed_report, released_with}
 use Rattle.machine.proofs.Makes.{still}
@@ -37,3 +38,9 @@ module _ (m : Meaning) (r p k : ℕ) (b : Branch) (answer : Report) (old new : P
   passed_on_made (Received c e) report memory = still _ answer old new vs hs report refl refl (ap (λ n. n.hub.ports) memory) (ap (λ n. seen_run n vs hs) memory)
   passed_on_made (Drained c) report memory = still _ answer old new vs hs report refl refl (ap (λ n. n.hub.ports) memory) (ap (λ n. seen_run n vs hs) memory)
   passed_on_made Broken report memory = still _ answer old new vs hs report refl refl (ap (λ n. n.hub.ports) memory) (ap (λ n. seen_run n vs hs) memory)
+
+-- nobody has a turn
+pub stall_made : (p : Program) (m : Meaning) (answer : Report) (old new : Parts Board) (vs : List Value) (hs : List Handle) → old.turns ≡ [] → answer ≡ record { event = Stall (living old); picked = None; accepted = None; received = None } → new ≡ stopped old → Made (step p (seen_run old vs hs) m) answer old new vs vs hs hs
+stall_made p m answer old new vs hs none report memory =
+    let T : List ℕ → Type 0 = λ ts. Made (turn p (seen_run old vs hs) m ts) answer old new vs vs hs hs in
+    subst T (sym none) (still (turn p (seen_run old vs hs) m []) answer old new vs hs report refl refl (ap (λ n. n.hub.ports) memory) (ap (λ n. seen_run n vs hs) memory))

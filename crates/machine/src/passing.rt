@@ -25,7 +25,13 @@ use waiting::Wish;
 
 impl Memory {
     // The routine passes by the case: its registers are written, and it goes on to the case's target.
-    pub(crate) fn pass(&mut self, r: u8, exchange: Option<Exchange<usize>>, target: usize, passed: Passed)
+    pub(crate) fn pass(
+        &mut self,
+        r: u8,
+        exchange: Option<Exchange<usize>>,
+        target: usize,
+        passed: Passed,
+    )
         requires { Front r self.old }
         ensures { self.new ≡ goes_on r (at_line target (written_by exchange passed (routine self.old r))) self.old }
     {

@@ -9,8 +9,8 @@ ghost use Rattle.hub.specs.Boards.{Enough};
 ghost use Rattle.machine.specs.Memory.{Front, Made, seen_run, passed_on, passed_report, released_with};
 ghost use Rattle.machine.specs.Needs.{Fit};
 
-use crate::memory::Memory;
 use crate::cases::{exchange_of, target_of};
+use crate::memory::Memory;
 use crate::turn::{Turn, pass_of};
 use elements::{Handle, Value};
 use linking::{Exchange, Linked, Operation};

@@ -1,4 +1,4 @@
-use Rattle.std.proofs.Common.{rules, ◌≡◌, None, Some, sym, ap, ◌∙◌}
+use Rattle.std.proofs.Common.{rules, ◌≡◌, Some, sym, ap, ◌∙◌}
 use Rattle.std.specs.Option.{unwrap_or}
 use Rattle.linking.specs.declared.operation.Operation.TheVariants.{Print, Clear}
 use Rattle.machine.proofs.Alone.{finish_made, end_made, print_made, plain_made}

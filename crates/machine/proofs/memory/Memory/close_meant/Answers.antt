@@ -1,4 +1,4 @@
-use Rattle.std.proofs.Common.{◌≡◌, Some, None, sym, ap, ◌∙◌, subst}
+use Rattle.std.proofs.Common.{◌≡◌, sym, ap, ◌∙◌, subst}
 use Rattle.runs.specs.Runs.{Parts, channel}
 use Rattle.runs.specs.Cases.{channel_for}
 use Rattle.hub.specs.Boards.{Board, seen}

@@ -1,4 +1,4 @@
-use Rattle.std.proofs.Common.{◌≡◌, ℕ, List, length, map, take, sym, ap, subst, ◌∙◌}
+use Rattle.std.proofs.Common.{◌≡◌, length, map, take, ap, subst, ◌∙◌}
 use Rattle.pickers.specs.Choosing.{after_choice}
 use Rattle.pickers.specs.declared.picker.Query.{Query}
 use Rattle.runs.specs.Runs.{Parts}

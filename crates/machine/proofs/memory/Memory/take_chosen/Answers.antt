@@ -1,5 +1,5 @@
 use Rattle.pickers.specs.declared.choosing.Choice.TheVariants.{Asked}
-use Rattle.std.proofs.Common.{◌≡◌, Some, None, length, map, refl, ap, ◌∙◌, subst, List, ℕ, ◌≤◌, sym}
+use Rattle.std.proofs.Common.{◌≡◌, Some, None, length, map, ap, ◌∙◌, subst, List, ℕ, sym}
 use Rattle.pickers.specs.Choosing.{taken}
 use Rattle.runs.specs.Cases.{branch, default_from}
 use Rattle.runs.specs.Orderly.{Orderly}
