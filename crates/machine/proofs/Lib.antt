@@ -4,7 +4,8 @@ pub mod Sets
 pub mod Dealing
 pub mod Selects
 pub mod Dismissals
-pub mod Alone
+pub mod Stilled
 pub mod Fits
 pub mod Lines
 pub mod Turning
+pub mod Keeping

@@ -1,8 +1,10 @@
 -- A run as memory keeps it, and what a step leaves there.
-use Rattle.std.specs.Prelude.{◌≡◌, ℕ, ◌<◌, ◌≤◌, Bool, List, [], ◌∷◌, length, map, drop, Some, None, Option, slice_set}
+use Rattle.std.specs.Prelude.{◌≡◌, ℕ, ◌<◌, ◌≤◌, Bool, List, [], ◌∷◌, length, map, drop, Some, None, Option, slice_set, cond, Ok, Err, Result}
 use Rattle.elements.specs.declared.value.Value.{Value}
 use Rattle.elements.specs.declared.handle.Handle.{Handle}
 use Rattle.pickers.specs.Meaning.{Meaning}
+use Rattle.words.specs.declared.refusal.Refusal.{Refusal}
+use Rattle.words.specs.declared.refusal.Refusal.TheVariants.{Small, Over}
 use Rattle.reports.specs.declared.report.Deed.{Deed}
 use Rattle.reports.specs.declared.report.Deed.TheVariants.{Panics, Passes, Waits}
 use Rattle.reports.specs.declared.report.Pass.TheVariants as pass
@@ -25,7 +27,7 @@ use Rattle.runs.specs.Taking.{dismissed}
 use Rattle.runs.specs.Cases.{Branch}
 use Rattle.runs.specs.Steps.{Step, shown, written_by, released_run, accepted_of, received_of, either}
 use Rattle.hub.specs.declared.port.Port.{Port}
-use Rattle.hub.specs.Boards.{Board, seen}
+use Rattle.hub.specs.Boards.{Board, seen, enough}
 use Rattle.hub.specs.Deals.{drawn_from, stored_in, leaving_from, board_closed, board_joined, values_after, handles_after}
 
 -- what memory stands for with the cells of both kinds
@@ -114,3 +116,25 @@ MadeBy f answer old new = (m : Meaning) (vs : List Value) (hs : List Handle) →
 abbrev pub released_with : State → Option (ℕ × Passed)
 released_with (Released k q) = Some (k, q)
 released_with _ = None
+
+-- ---- the call of a step: too few cells come first, then that the run is over
+abbrev pub refused : Run → List Value → List Handle → Option Refusal
+refused run vs hs = cond (enough vs hs) (cond run.over (Some Over) None) (Some Small)
+
+abbrev pub answered : Option Refusal → Report → Result Report Refusal
+answered None x = Ok x
+answered (Some why) x = Err why
+
+-- what a call leaves: nothing is changed where it is refused
+abbrev pub left : {A : Type 0} → Option Refusal → A → A → A
+left None made old = made
+left (Some why) made old = old
+
+-- what a step answers, what memory keeps and stands for afterwards, the picker's meaning, and every cell
+pub record Stepped (o : Option Refusal) (s : Step) (m : Meaning) (old : Parts Board) (vs : List Value) (hs : List Handle) (r : Result Report Refusal) (m' : Meaning) (new : Parts Board) (vs' : List Value) (hs' : List Handle) : Type 0 where
+  pub answer : r ≡ answered o s.report
+  pub memory : new ≡ left o (memory_of s old) old
+  pub run : seen_run new vs' hs' ≡ left o s.run (seen_run old vs hs)
+  pub meaning : m' ≡ left o s.meaning m
+  pub values : vs' ≡ left o (values_after old.hub.ports s.drawn s.stored vs) vs
+  pub handles : hs' ≡ left o (handles_after old.hub.ports s.drawn s.stored hs) hs

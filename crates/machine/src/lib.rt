@@ -2,11 +2,14 @@
 #![tactic(auto)]
 
 mod acts;
+mod alone;
 mod cases;
 mod closing;
 mod memory;
 mod passing;
 mod selecting;
+mod started;
 mod turn;
 mod turns;
-mod whole_turns;
+
+pub use started::Started;

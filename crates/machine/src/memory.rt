@@ -48,6 +48,12 @@ impl Memory {
         self.turns.rotate_left(1);
     }
 
+    pub(crate) fn is_over(&self) -> bool
+        ensures { result ≡ self.now.over }
+    {
+        self.over
+    }
+
     // The run is over, and all stands as it is.
     pub(crate) fn stop(&mut self)
         ensures { self.new ≡ stopped self.old }

@@ -1,7 +1,7 @@
 use Rattle.std.proofs.Common.{rules, ◌≡◌, Some, sym, ap, ◌∙◌}
 use Rattle.std.specs.Option.{unwrap_or}
 use Rattle.linking.specs.declared.operation.Operation.TheVariants.{Print, Clear}
-use Rattle.machine.proofs.Alone.{finish_made, end_made, print_made, plain_made}
+use Rattle.machine.proofs.Stilled.{finish_made, end_made, print_made, plain_made}
 use Rattle.machine.proofs.memory.Memory.act_alone.Goals as goal
 
 pub returns-in-None : goal.returns-in-None

@@ -2,7 +2,7 @@ use Rattle.std.proofs.Common.{◌≡◌, sym, ap, ◌∙◌, subst}
 use Rattle.runs.specs.Runs.{Parts, channel}
 use Rattle.runs.specs.Cases.{channel_for}
 use Rattle.hub.specs.Boards.{Board, seen}
-use Rattle.machine.proofs.Alone.{nil_close_made, second_close_made, close_made}
+use Rattle.machine.proofs.Stilled.{nil_close_made, second_close_made, close_made}
 use Rattle.machine.proofs.memory.Memory.close_meant.Goals as goal
 
 pub returns-in-None : goal.returns-in-None

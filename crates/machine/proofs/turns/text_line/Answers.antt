@@ -2,7 +2,7 @@ use Rattle.std.proofs.Common.{◌∙◌, arith}
 use Rattle.std.proofs.Math.Logic.{∥∥₁_elim}
 use Rattle.std.proofs.Math.Bridge.{le_prop}
 use Rattle.linking.proofs.Places.{line_fits}
-use Rattle.machine.proofs.whole_turns.text_line.Goals as goal
+use Rattle.machine.proofs.turns.text_line.Goals as goal
 
 pub overflow_add-result-in-Some : goal.overflow_add-result-in-Some
 overflow_add-result-in-Some c =
