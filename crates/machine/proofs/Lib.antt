@@ -9,3 +9,4 @@ pub mod Fits
 pub mod Lines
 pub mod Turning
 pub mod Keeping
+pub mod Beginning

@@ -1,2 +1,3 @@
 pub mod Memory
 pub mod Needs
+pub mod Starts

@@ -9,7 +9,9 @@ mod memory;
 mod passing;
 mod selecting;
 mod started;
+mod starting;
 mod turn;
 mod turns;
 
 pub use started::Started;
+pub use starting::{StartError, Unstarted, start};
