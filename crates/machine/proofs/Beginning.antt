@@ -13,7 +13,7 @@ use Rattle.linking.specs.declared.declared.Declared.{Declared}
 use Rattle.linking.specs.Programs.{Program}
 use Rattle.linking.specs.Sound.{cells_for}
 use Rattle.routines.specs.Registers.{first}
-use Rattle.runs.specs.Runs.{Parts, Run, started}
+use Rattle.runs.specs.Runs.{Parts, started}
 use Rattle.runs.specs.Orderly.{Orderly}
 use Rattle.run_laws.proofs.Orderly.{begins_orderly}
 use Rattle.hub.specs.Boards.{Board, laid, cells, declared, new_port, enough}

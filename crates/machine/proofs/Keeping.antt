@@ -10,7 +10,6 @@ use Rattle.reports.specs.declared.report.Report.{Report}
 use Rattle.runs.specs.Runs.{Parts, Channel}
 use Rattle.runs.specs.Orderly.{Orderly, OrderlyRun}
 use Rattle.runs.specs.Steps.{step}
-use Rattle.run_laws.specs.Orderly.{kinds}
 use Rattle.run_laws.proofs.Orderly.{step_orderly}
 use Rattle.run_laws.proofs.Kept.{channels_stay}
 use Rattle.hub.specs.Boards.{Board, seen_port}

@@ -1,6 +1,5 @@
 -- What starting a linked script answers and leaves.
-use Rattle.std.specs.Prelude.{◌≡◌, ℕ, true, false, Bool, List, [], ◌∷◌, Ok, Err, Result, sum_by}
-use Rattle.words.specs.declared.refusal.Refusal.{Refusal}
+use Rattle.std.specs.Prelude.{◌≡◌, true, false, Bool, List, [], ◌∷◌, Ok, Err, Result, sum_by}
 use Rattle.words.specs.declared.refusal.Refusal.TheVariants.{Small}
 use Rattle.lines.specs.declared.line.Kind.TheVariants.{Value as ValueKind, Handle as HandleKind}
 use Rattle.elements.specs.declared.value.Value.{Value}
