@@ -1,6 +1,6 @@
 #!/usr/bin/env python3
 """Shows that misuses do not compile: makes each edit in a copy of the repository and runs the check, which must
-stop at the edited line with the compiler's error for the use of a moved value. The gate's own must-fail edits have
+stop at the edited line with the compiler's error, for the use of a moved value or for a method that there is not. The gate's own must-fail edits have
 to reach the prover, and these do not get that far. Last line: 'N refused, M compiled'; a check that stops for another
 reason counts as neither, and ends the run."""
 import os, shutil, subprocess, sys, tempfile
@@ -15,6 +15,10 @@ MISUSES = [
      'link(script, rt.alloc()).map_err(|unlinked| unlinked.stop)',
      'let _before = link(script, rt.alloc()); link(script, rt.alloc()).map_err(|unlinked| unlinked.stop)',
      'borrow-e0382'),
+    ('stepping a linked script that was not started', 'live', 'src/main.rt',
+     'match start(script, &mut values, &mut handles, rt.alloc()) {',
+     'let mut picker = Turning::new(); let _ = script.step(&mut picker, &mut values, &mut handles); match start(script, &mut values, &mut handles, rt.alloc()) {',
+     'unknown-method'),
 ]
 top = os.path.join(os.path.dirname(os.path.abspath(__file__)), '..')
 refused = compiled = 0
