@@ -1,0 +1,56 @@
+-- What each call answers, and a list of calls.
+use Rattle.std.specs.Prelude.{Bool, true, false, List, [], ◌∷◌, Ok, Err, Result}
+use Rattle.words.specs.declared.refusal.Refusal.{Refusal}
+use Rattle.words.specs.declared.refusal.Refusal.TheVariants.{Small, Over}
+use Rattle.linking.specs.Programs.{Program}
+use Rattle.pickers.specs.Meaning.{Meaning}
+use Rattle.runs.specs.Runs.{Run, started}
+use Rattle.runs.specs.Steps.{Step, step}
+use Rattle.calls.specs.declared.call.Call.{Call}
+use Rattle.calls.specs.declared.call.Call.TheVariants as call
+use Rattle.calls.specs.declared.answer.Answer.{Answer}
+use Rattle.calls.specs.declared.answer.Answer.TheVariants as answer
+use Rattle.calls.specs.Questions.{enough, routine_question, channel_question, element_question}
+
+-- a run, and what its picker means then
+pub record Played : Type 0 where
+  pub run : Run
+  pub meaning : Meaning
+
+abbrev pub begun : Program → Meaning → Played
+begun p m = record { run = started p; meaning = m }
+
+-- what a call answers, and the run afterwards
+pub record Answered : Type 0 where
+  pub answer : Answer
+  pub after : Played
+
+-- what is told or refused leaves the run as it is
+abbrev pub tells : {A : Type 0} → (A → Answer) → Result A Refusal → Played → Answered
+tells f (Ok a) at = record { answer = f a; after = at }
+tells f (Err why) at = record { answer = answer.Refused why; after = at }
+
+-- a step that is granted
+abbrev pub granted : Step → Answered
+granted t = record { answer = answer.Report t.report; after = record { run = t.run; meaning = t.meaning } }
+
+-- too few cells are refused first, and then a step of a run that is over
+abbrev pub stepping : Program → Played → Bool → Bool → Answered
+stepping p at false over = tells answer.Report (Err Small) at
+stepping p at true true = tells answer.Report (Err Over) at
+stepping p at true false = granted (step p at.run at.meaning)
+
+abbrev pub answered : Program → Played → Call → Answered
+answered p at (call.Step cells) = stepping p at (enough cells) at.run.over
+answered p at (call.Routine r) = tells answer.Routine (routine_question p at.run r) at
+answered p at (call.Channel c) = tells answer.Channel (channel_question at.run c) at
+answered p at (call.Element c i cells) = tells answer.Element (element_question at.run c i (enough cells)) at
+
+-- a list of calls, in order: the answers, and the run afterwards
+abbrev pub answers : Program → Played → List Call → List Answer
+answers p at [] = []
+answers p at (c ∷ cs) = (answered p at c).answer ∷ answers p (answered p at c).after cs
+
+abbrev pub after_calls : Program → Played → List Call → Played
+after_calls p at [] = at
+after_calls p at (c ∷ cs) = after_calls p (answered p at c).after cs
