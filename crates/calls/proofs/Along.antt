@@ -11,6 +11,7 @@ use Rattle.routines.specs.declared.item.Item.{Item}
 use Rattle.routines.specs.declared.routine.Routine.{Routine}
 use Rattle.routines.specs.Items.{code_of}
 use Rattle.runs.specs.Runs.{Channel, Run, channel}
+use Rattle.runs.specs.Questions.{if_there, routine_told, routine_question, channel_told, channel_question, no_item, code_told, element_question}
 use Rattle.runs.specs.Steps.{step}
 use Rattle.run_laws.specs.Elements.{held, codes_on, accepted_on, received_on}
 use Rattle.run_laws.specs.Moves.{due_in, due, moves, passed_by, all_moves, all_passed}
@@ -27,8 +28,7 @@ use Rattle.calls.specs.declared.call.Call.{Call}
 use Rattle.calls.specs.declared.call.Call.TheVariants as call
 use Rattle.calls.specs.declared.answer.Answer.{Answer}
 use Rattle.calls.specs.declared.answer.Answer.TheVariants as answer
-use Rattle.calls.specs.Questions.{enough, if_there, routine_told, routine_question, channel_told, channel_question, no_item, code_told, element_question}
-use Rattle.calls.specs.Calls.{Played, Answered, begun, tells, granted, stepping, answered, answers, after_calls}
+use Rattle.calls.specs.Calls.{enough, Played, Answered, begun, tells, granted, stepping, answered, answers, after_calls}
 use Rattle.calls.specs.Laws.{report_in, reports_in, count, code, buffer_told, due_told, AlwaysLawful, CallsFollow}
 
 -- ---- a call is a step that is granted, or it reports nothing and leaves the run
@@ -48,8 +48,8 @@ said_step p at true false = stepped
 said : (p : Program) (at : Played) (c : Call) → Said p at (answered p at c)
 said p at (call.Step cells) = said_step p at (enough cells) at.run.over
 said p at (call.Routine r) = said_told p at answer.Routine (routine_question p at.run r) (λ a. refl)
-said p at (call.Channel c) = said_told p at answer.Channel (channel_question at.run c) (λ a. refl)
-said p at (call.Element c i cells) = said_told p at answer.Element (element_question at.run c i (enough cells)) (λ a. refl)
+said p at (call.Channel c) = said_told p at answer.Channel (channel_question at.run.hub c) (λ a. refl)
+said p at (call.Element c i cells) = said_told p at answer.Element (element_question at.run.hub c i (enough cells)) (λ a. refl)
 
 -- ---- along a list of calls
 pub record Fine (p : Program) (at : Played) : Type 0 where
@@ -106,21 +106,21 @@ told_places (x ∷ xs) f a h =
     ∙ ap (λ l. code_of x ∷ l) (told_places xs f (a + 1) (λ i l. ap f (omega arith) ∙ h (suc i) (omega arith)))
 
 module _ (run : Run) where
-  count_is : (c : ℕ) → count (channel_question run c) ≡ length (channel run.hub c).buffer
+  count_is : (c : ℕ) → count (channel_question run.hub c) ≡ length (channel run.hub c).buffer
   count_is c = go (ltb c (length run.hub.channels)) refl
     where
-      go : (b : Bool) → ltb c (length run.hub.channels) ≡ b → count (if_there b (channel_told run c)) ≡ length (channel run.hub c).buffer
+      go : (b : Bool) → ltb c (length run.hub.channels) ≡ b → count (if_there b (channel_told run.hub c)) ≡ length (channel run.hub c).buffer
       go true e = refl
       go false e = sym (ap (λ (x : Channel). length x.buffer) (past_end run.hub.channels c (ltb-false c (length run.hub.channels) e)))
 
-  code_is : (c i : ℕ) → i < length (channel run.hub c).buffer → code (element_question run c i true) ≡ code_told run c i
-  code_is c i l = ap (λ b. code (if_there b (code_told run c i))) (lt-ltb i (length (channel run.hub c).buffer) l)
+  code_is : (c i : ℕ) → i < length (channel run.hub c).buffer → code (element_question run.hub c i true) ≡ code_told run.hub c i
+  code_is c i l = ap (λ b. code (if_there b (code_told run.hub c i))) (lt-ltb i (length (channel run.hub c).buffer) l)
 
   pub buffer_is : (c : ℕ) → buffer_told run c ≡ held run c
   buffer_is c =
-      ap (λ n. map (λ i. code (element_question run c i true)) (range_with_len 0 n)) (count_is c)
-      ∙ told_places (channel run.hub c).buffer (λ i. code (element_question run c i true)) 0
-      (λ i l. ap (λ j. code (element_question run c j true)) (omega arith) ∙ code_is c i l)
+      ap (λ n. map (λ i. code (element_question run.hub c i true)) (range_with_len 0 n)) (count_is c)
+      ∙ told_places (channel run.hub c).buffer (λ i. code (element_question run.hub c i true)) 0
+      (λ i l. ap (λ j. code (element_question run.hub c j true)) (omega arith) ∙ code_is c i l)
 
   pub due_is : (p : Program) (r : ℕ) → due_told (routine_question p run r) ≡ due run r
   due_is p r = go (ltb r (length run.routines)) refl

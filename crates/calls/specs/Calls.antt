@@ -5,12 +5,18 @@ use Rattle.words.specs.declared.refusal.Refusal.TheVariants.{Small, Over}
 use Rattle.linking.specs.Programs.{Program}
 use Rattle.pickers.specs.Meaning.{Meaning}
 use Rattle.runs.specs.Runs.{Run, started}
+use Rattle.runs.specs.Questions.{routine_question, channel_question, element_question}
 use Rattle.runs.specs.Steps.{Step, step}
+use Rattle.hub.specs.Boards.{enough_of}
+use Rattle.calls.specs.declared.call.Cells.{Cells}
 use Rattle.calls.specs.declared.call.Call.{Call}
 use Rattle.calls.specs.declared.call.Call.TheVariants as call
 use Rattle.calls.specs.declared.answer.Answer.{Answer}
 use Rattle.calls.specs.declared.answer.Answer.TheVariants as answer
-use Rattle.calls.specs.Questions.{enough, routine_question, channel_question, element_question}
+
+-- a step and an element need 512 value cells and 128 handle cells
+abbrev pub enough : Cells → Bool
+enough c = enough_of c.values c.handles
 
 -- a run, and what its picker means then
 pub record Played : Type 0 where
@@ -43,8 +49,8 @@ stepping p at true false = granted (step p at.run at.meaning)
 abbrev pub answered : Program → Played → Call → Answered
 answered p at (call.Step cells) = stepping p at (enough cells) at.run.over
 answered p at (call.Routine r) = tells answer.Routine (routine_question p at.run r) at
-answered p at (call.Channel c) = tells answer.Channel (channel_question at.run c) at
-answered p at (call.Element c i cells) = tells answer.Element (element_question at.run c i (enough cells)) at
+answered p at (call.Channel c) = tells answer.Channel (channel_question at.run.hub c) at
+answered p at (call.Element c i cells) = tells answer.Element (element_question at.run.hub c i (enough cells)) at
 
 -- a list of calls, in order: the answers, and the run afterwards
 abbrev pub answers : Program → Played → List Call → List Answer

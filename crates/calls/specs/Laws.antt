@@ -7,7 +7,10 @@ use Rattle.linking.specs.Sound.{Sound}
 use Rattle.pickers.specs.Meaning.{Meaning, Lawful}
 use Rattle.reports.specs.declared.report.Report.{Report}
 use Rattle.routines.specs.declared.routine.State.TheVariants.{Waiting}
+use Rattle.runs.specs.declared.answer.RoutineAnswer.{RoutineAnswer}
+use Rattle.runs.specs.declared.answer.ChannelAnswer.{ChannelAnswer}
 use Rattle.runs.specs.Runs.{Run, routine}
+use Rattle.runs.specs.Questions.{routine_question, channel_question, element_question}
 use Rattle.run_laws.specs.Elements.{accepted_on, received_on}
 use Rattle.run_laws.specs.Moves.{Moved, due_in, all_moves, all_passed}
 use Rattle.run_laws.specs.Waits.{a_stall, AllWait, CanGo, wish_at}
@@ -16,9 +19,6 @@ use Rattle.calls.specs.declared.call.Call.{Call}
 use Rattle.calls.specs.declared.call.Call.TheVariants as call
 use Rattle.calls.specs.declared.answer.Answer.{Answer}
 use Rattle.calls.specs.declared.answer.Answer.TheVariants as answer
-use Rattle.calls.specs.declared.answer.RoutineAnswer.{RoutineAnswer}
-use Rattle.calls.specs.declared.answer.ChannelAnswer.{ChannelAnswer}
-use Rattle.calls.specs.Questions.{routine_question, channel_question, element_question}
 use Rattle.calls.specs.Calls.{Played, begun, answered, answers, after_calls}
 
 -- the reports among the answers
@@ -41,7 +41,7 @@ code (Err why) = 0
 
 -- the codes at the places below the count of channel c, the oldest first
 abbrev pub buffer_told : Run → ℕ → List ℕ
-buffer_told run c = map (λ i. code (element_question run c i true)) (range_with_len 0 (count (channel_question run c)))
+buffer_told run c = map (λ i. code (element_question run.hub c i true)) (range_with_len 0 (count (channel_question run.hub c)))
 
 -- the move that a routine was released with, while its turn is still to come
 abbrev pub due_told : Result RoutineAnswer Refusal → List Moved

@@ -5,6 +5,6 @@ mod answer;
 mod call;
 mod laws;
 
-pub use answer::{Answer, ChannelAnswer, RoutineAnswer};
+pub use answer::Answer;
 pub use call::{Call, Cells};
 pub use laws::laws_hold;

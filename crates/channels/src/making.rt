@@ -1,9 +1,11 @@
 // Making a channel, and what can be asked of it.
-ghost use Rattle.std.specs.Prelude.{◌≡◌};
-ghost use Rattle.rings.specs.Layouts.{Sound};
+ghost use Rattle.std.specs.Prelude.{◌≡◌, None, if◌then◌else◌};
+ghost use Rattle.std.specs.List.{slice_get};
+ghost use Rattle.rings.specs.Layouts.{Sound, covers, held};
 ghost use Rattle.channels.specs.Seen.{new_channel};
 
 use crate::channel::Channel;
+use elements::Element;
 use rings::Ring;
 
 impl Channel {
@@ -44,5 +46,12 @@ impl Channel {
         ensures { result ≡ self.now.closed }
     {
         self.closed
+    }
+
+    // The element at a place of its buffer, 0 the oldest. None, too, where the bank lacks a cell of it.
+    pub fn look<E: Element>(&self, bank: &[E], place: usize) -> Option<E>
+        ensures { result ≡ (if covers self.now.ring bank.now then slice_get (held self.now.ring bank.now) place else None) }
+    {
+        self.ring.look(bank, place).ok()
     }
 }

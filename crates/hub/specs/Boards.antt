@@ -25,8 +25,12 @@ pub record Enough (vs : List Number) (hs : List Holder) : Type 0 where
   pub values : 512 ≤ length vs
   pub handles : 128 ≤ length hs
 
+-- whether so many cells of each kind are
+abbrev pub enough_of : ℕ → ℕ → Bool
+enough_of v h = nat_le 512 v && nat_le 128 h
+
 abbrev pub enough : List Number → List Holder → Bool
-enough vs hs = nat_le 512 (length vs) && nat_le 128 (length hs)
+enough vs hs = enough_of (length vs) (length hs)
 
 abbrev pub cells_of : Kind → ℕ
 cells_of ValueKind = 512

@@ -1,22 +1,27 @@
 -- What a taken case, a join and a close leave in memory.
-use Rattle.std.specs.Prelude.{◌≡◌, ℕ, Bool, false, cond, ◌&&◌, List, [], ◌∷◌, ◌++◌, length, Some, None, Option, nat_lt, nat_le, not, slice_index_or, slice_set}
+use Rattle.std.specs.Prelude.{◌≡◌, ℕ, Bool, false, cond, ◌&&◌, List, [], ◌∷◌, ◌++◌, length, Some, None, Option, nat_lt, nat_le, not, Result, slice_index_or, slice_set}
 use Rattle.lines.specs.declared.line.Kind.TheVariants.{Value as ValueKind}
 use Rattle.elements.specs.declared.value.Value.{Value as Number}
 use Rattle.elements.specs.declared.handle.Handle.{Handle as Holder}
 use Rattle.rings.specs.Layouts.{Layout, fresh, next_cell, one_more, one_less}
 use Rattle.waiting.specs.declared.wish.Wish.{Wish}
 use Rattle.waiting.specs.declared.wish.Wish.TheVariants.{Send, Receive}
-use Rattle.waiting.specs.Queues.{Row, written}
+use Rattle.waiting.specs.declared.wish.Side.TheVariants.{Receivers, Senders}
+use Rattle.waiting.specs.Queues.{Row, queue, written}
 use Rattle.waiting.specs.declared.wish.Entry.{Entry}
 use Rattle.channels.specs.Seen.{shut}
 use Rattle.channels.specs.Closes.{freed, without_all}
 use Rattle.routines.specs.declared.item.Item.{Item}
 use Rattle.routines.specs.declared.item.Item.TheVariants.{Value, Handle}
+use Rattle.words.specs.declared.refusal.Refusal.{Refusal}
+use Rattle.runs.specs.declared.answer.ChannelAnswer.{ChannelAnswer}
 use Rattle.runs.specs.Cases.{can_go}
+use Rattle.runs.specs.Questions.{if_there}
 use Rattle.runs.specs.Taking.{Deal, take}
 use Rattle.hub.specs.declared.port.Port.{Port}
 use Rattle.hub.specs.declared.deal.Deal.{Deal as Answer}
 use Rattle.hub.specs.Boards.{Board, seen, enough, Placed}
+use Rattle.hub.specs.Ports.{told_of}
 
 -- ---- one channel in memory
 abbrev pub no_port : Port
@@ -103,3 +108,7 @@ leaving_from c b = freed c b.line b.wishes
 
 abbrev pub board_closed : ℕ → Board → Board
 board_closed c b = record b { ports = shut_in c b.ports; line = without_all (leaving_from c b) b.line }
+
+-- ---- how a channel stands
+abbrev pub channel_answer : Board → ℕ → Result ChannelAnswer Refusal
+channel_answer b c = if_there (nat_lt c (length b.ports)) (told_of (port b.ports c) (length (queue Receivers c b.line b.wishes)) (length (queue Senders c b.line b.wishes)))

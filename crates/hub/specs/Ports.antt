@@ -24,6 +24,7 @@ use Rattle.routines.specs.declared.item.Item.TheVariants.{Value}
 use Rattle.routines.specs.declared.routine.Passed.TheVariants.{Sent as Passes, Received as Gets, Drained as Nothing, Broken}
 use Rattle.routines.specs.declared.routine.Release.{Release}
 use Rattle.routines.specs.Items.{as_value, as_handle, as_kind}
+use Rattle.runs.specs.declared.answer.ChannelAnswer.{ChannelAnswer}
 use Rattle.runs.specs.Taking.{offer, released_by}
 use Rattle.hub.specs.declared.port.Port.{Port}
 use Rattle.hub.specs.declared.deal.Deal.{Deal as Answer}
@@ -42,6 +43,17 @@ seen_in p vs hs st = record {
   buffer = buffered p.kind p.channel.ring vs hs;
   receivers = queued Receivers p.channel st;
   senders = queued Senders p.channel st;
+}
+
+-- how it stands, with so many entries in its two queues
+abbrev pub told_of : Port → ℕ → ℕ → ChannelAnswer
+told_of p receivers senders = record {
+  kind = p.kind;
+  capacity = p.channel.ring.capacity;
+  count = p.channel.ring.count;
+  closed = p.channel.closed;
+  receivers = receivers;
+  senders = senders;
 }
 
 abbrev pub zero_of : Kind → Item

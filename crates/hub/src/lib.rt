@@ -1,6 +1,7 @@
 // The channels of a run, of both kinds, and who waits at them.
 #![tactic(auto)]
 
+mod asking;
 mod clearing;
 mod closing;
 mod deal;

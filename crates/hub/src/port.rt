@@ -1,11 +1,12 @@
 // A channel of either kind.
-ghost use Rattle.std.specs.Prelude.{◌≡◌, ◌≤◌};
+ghost use Rattle.std.specs.Prelude.{◌≡◌, ◌≤◌, None, if◌then◌else◌};
+ghost use Rattle.std.specs.List.{slice_get};
 ghost use Rattle.routines.specs.Items.{as_kind};
 ghost use Rattle.channels.specs.Rules.{sent, after_sent, line_sent, laid_sent};
 ghost use Rattle.channels.specs.Receives.{got, after_got, line_got, laid_got};
 ghost use Rattle.linking.specs.Sound.{cells_for};
 ghost use Rattle.hub.specs.Boards.{base_for as first_cell, new_port, buffered, declared, has_room as room, has_some as element};
-ghost use Rattle.hub.specs.Ports.{seen_in, zero_of, values_sent, handles_sent, values_got, handles_got};
+ghost use Rattle.hub.specs.Ports.{told_of, there, seen_in, zero_of, values_sent, handles_sent, values_got, handles_got};
 
 use crate::item::items;
 use channels::{Channel, ReceiveError, Received, SendError, Sent};
@@ -13,6 +14,7 @@ use elements::{Handle, Value};
 use lines::Kind;
 use linking::Declared;
 use routines::Item;
+use runs::ChannelAnswer;
 use waiting::Waiting;
 
 #[derive(Clone, Copy)]
@@ -58,6 +60,30 @@ impl Port {
         ensures { result ≡ element self.now.channel }
     {
         self.channel.is_closed() || self.channel.count() > 0
+    }
+
+    // How it stands, with so many entries in its two queues.
+    pub(crate) fn told(&self, receivers: usize, senders: usize) -> ChannelAnswer
+        ensures { result ≡ told_of self.now receivers senders }
+    {
+        ChannelAnswer {
+            kind: self.kind,
+            capacity: self.channel.capacity(),
+            count: self.channel.count(),
+            closed: self.channel.is_closed(),
+            receivers,
+            senders,
+        }
+    }
+
+    // The element at a place of its buffer, 0 the oldest.
+    pub(crate) fn look(&self, values: &[Value], handles: &[Handle], place: usize) -> Option<Item>
+        ensures { result ≡ (if there self.now.kind self.now.channel.ring values.now handles.now then slice_get (buffered self.now.kind self.now.channel.ring values.now handles.now) place else None) }
+    {
+        match self.kind {
+            Kind::Value => self.channel.look(values, place).map(Item::Value),
+            Kind::Handle => self.channel.look(handles, place).map(Item::Handle),
+        }
     }
 
     // How many cells of that kind it has.

@@ -7,6 +7,7 @@ mod cases;
 mod closing;
 mod memory;
 mod passing;
+mod questions;
 mod selecting;
 mod started;
 mod starting;

@@ -115,7 +115,7 @@ impl Memory {
 }
 
 // The text line of that operation of a body, counted from 1, and 0 at the body's end.
-fn text_line(linked: &Linked, x: &Routine, operation: Option<Operation>) -> u32
+pub(crate) fn text_line(linked: &Linked, x: &Routine, operation: Option<Operation>) -> u32
     requires { operation_at linked.now.program x.now ≡ operation }
     ensures { result ≡ text_line linked.now.program x.now }
 {
@@ -126,7 +126,7 @@ fn text_line(linked: &Linked, x: &Routine, operation: Option<Operation>) -> u32
 }
 
 // The operation at that line of a body, if it is not at the end.
-fn operation_at(operations: &[Operation], line: usize) -> Option<Operation>
+pub(crate) fn operation_at(operations: &[Operation], line: usize) -> Option<Operation>
     ensures { result ≡ slice_get operations.now line }
 {
     operations.get(line).copied()

@@ -3,3 +3,4 @@ pub mod Cases
 pub mod Taking
 pub mod Steps
 pub mod Orderly
+pub mod Questions
