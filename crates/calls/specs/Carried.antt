@@ -1,12 +1,12 @@
 -- What carrying out calls answers and leaves: of memory, of what the picker means, and of every cell.
-use Rattle.std.specs.Prelude.{◌≡◌, ℕ, Bool, cond, ◌&&◌, not, List, [], ◌∷◌, ◌++◌, map, Ok, Err, Result, min}
+use Rattle.std.specs.Prelude.{◌≡◌, ℕ, Bool, cond, ◌&&◌, not, List, [], ◌∷◌, ◌++◌, Ok, Err, Result, min}
 use Rattle.words.specs.declared.refusal.Refusal.{Refusal}
 use Rattle.words.specs.declared.refusal.Refusal.TheVariants.{Small}
 use Rattle.elements.specs.declared.value.Value.{Value}
 use Rattle.elements.specs.declared.handle.Handle.{Handle}
 use Rattle.linking.specs.Programs.{Program}
 use Rattle.pickers.specs.Meaning.{Meaning, Lawful}
-use Rattle.runs.specs.Runs.{Parts}
+use Rattle.runs.specs.Runs.{Parts, Run}
 use Rattle.runs.specs.Steps.{Step, step}
 use Rattle.hub.specs.Boards.{Board}
 use Rattle.hub.specs.Deals.{values_after, handles_after}
@@ -28,40 +28,46 @@ handed v h (Routine r) = Routine r
 handed v h (Channel c) = Channel c
 handed v h (Element c i cells) = Element c i (no_more v h cells)
 
--- a run in memory, with what its picker means and the cells of both kinds
+-- the memory of a run, and the cells of both kinds
 pub record Kept : Type 0 where
   pub memory : Parts Board
-  pub meaning : Meaning
   pub values : List Value
   pub handles : List Handle
 
--- what it stands for
-abbrev pub seen : Kept → Played
-seen k = record { run = seen_run k.memory k.values k.handles; meaning = k.meaning }
+-- the run that it stands for
+abbrev pub seen : Kept → Run
+seen k = seen_run k.memory k.values k.handles
 
--- only a step that is granted changes anything
+abbrev pub played : Kept → Meaning → Played
+played k m = record { run = seen k; meaning = m }
+
+-- ---- what is left when calls are made of a run in the subject's words
+-- of a step
 abbrev pub stepped : Step → Kept → Kept
 stepped s k = record {
   memory = memory_of s k.memory;
-  meaning = s.meaning;
   values = values_after k.memory.hub.ports s.drawn s.stored k.values;
   handles = handles_after k.memory.hub.ports s.drawn s.stored k.handles;
 }
 
-abbrev pub kept_by : Program → Kept → Call → Kept
-kept_by p k (Stepping cells) = cond (enough cells && not k.memory.over) (stepped (step p (seen k).run k.meaning) k) k
-kept_by p k _ = k
+-- only a step that is granted changes anything
+abbrev pub is_granted : Cells → Played → Bool
+is_granted cells at = enough cells && not at.run.over
 
-abbrev pub kept_after : Program → Kept → List Call → Kept
-kept_after p k [] = k
-kept_after p k (c ∷ cs) = kept_after p (kept_by p k c) cs
+abbrev pub kept_by : Program → Played → Call → Kept → Kept
+kept_by p at (Stepping cells) k = cond (is_granted cells at) (stepped (step p at.run at.meaning) k) k
+kept_by p at _ k = k
+
+abbrev pub kept_after : Program → Played → List Call → Kept → Kept
+kept_after p at [] k = k
+kept_after p at (c ∷ cs) k = kept_after p (answered p at c).after cs (kept_by p at c k)
 
 -- the calls are carried out in order; nothing is done where there is no room for the answers
-pub record CarriedOut (p : Program) (room : Bool) (calls : List Call) (old : Kept) (items : List Answer) (result : Result (Unit {0}) Refusal) (new : Kept) (items' : List Answer) : Type 0 where
+pub record CarriedOut (p : Program) (room : Bool) (calls : List Call) (old : Kept) (m : Meaning) (items : List Answer) (result : Result (Unit {0}) Refusal) (new : Kept) (m' : Meaning) (items' : List Answer) : Type 0 where
   pub answer : result ≡ cond room (Ok tt) (Err Small)
-  pub answers : items' ≡ items ++ cond room (answers p (seen old) calls) []
-  pub left : new ≡ cond room (kept_after p old calls) old
-  pub run : seen new ≡ cond room (after_calls p (seen old) calls) (seen old)
+  pub answers : items' ≡ items ++ cond room (answers p (played old m) calls) []
+  pub left : new ≡ cond room (kept_after p (played old m) calls old) old
+  pub run : played new m' ≡ cond room (after_calls p (played old m) calls) (played old m)
 
 -- Whatever calls led from the start to this run: the laws hold now, and after each of these calls, of all the answers given since
 -- the start, with any picker that kept its laws then.

@@ -2,3 +2,4 @@
 pub mod Calls
 pub mod Laws
 pub mod Carried
+pub mod Filled
