@@ -7,13 +7,13 @@ import os, shutil, subprocess, sys, tempfile
 
 MISUSES = [
     # what, crate, file, old text, new text, the compiler's error
-    ('an empty script after it was read', 'relist', 'src/main.rt',
+    ('an empty script after it was read', 'loading', 'src/lib.rt',
      'let script = read_exactly(empty, text).map_err(|unread| unread.fault)?;',
      'let script = read_exactly(empty, text).map_err(|unread| unread.fault)?; let _again = empty.read(text);',
      'borrow-e0382'),
-    ('linking the same read script twice', 'relist', 'src/main.rt',
-     'link(script, rt.alloc()).map_err(|unlinked| unlinked.stop)',
-     'let _before = link(script, rt.alloc()); link(script, rt.alloc()).map_err(|unlinked| unlinked.stop)',
+    ('linking the same read script twice', 'loading', 'src/lib.rt',
+     'link(script, heap).map_err(|unlinked| unlinked.stop)',
+     'let _before = link(script, heap); link(script, heap).map_err(|unlinked| unlinked.stop)',
      'borrow-e0382'),
     ('stepping a linked script that was not started', 'live', 'src/main.rt',
      'match start(script, &mut values, &mut handles, rt.alloc()) {',

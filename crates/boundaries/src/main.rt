@@ -5,9 +5,8 @@
 
 ghost use Rattle.std.specs.Prelude.{◌<◌, length, IfSome};
 
-use linking::{Linked, Stop, link};
-use script::Empty;
-use script_laws::read_exactly;
+use linking::Stop;
+use loading::load;
 use std::alloc::AllocError;
 use std::io;
 use std::io::{Read, Write};
@@ -35,16 +34,9 @@ fn text_of(input: &[u8]) -> Option<(&[u8], &[u8])>
     body.split_at_checked(len)
 }
 
-// The script that the text is, linked.
-fn linked(rt: &HostRuntime, text: &[u8]) -> Result<Linked, Stop> {
-    let empty = Empty::new(rt.alloc())?;
-    let script = read_exactly(empty, text).map_err(|unread| unread.fault)?;
-    link(script, rt.alloc()).map_err(|unlinked| unlinked.stop)
-}
-
 // What comes of one text.
 fn print_outcome(rt: &HostRuntime, text: &[u8]) -> io::Result<()> {
-    let script = match linked(rt, text) {
+    let script = match load(text, rt.alloc()) {
         Ok(script) => script,
         Err(Stop::Faulty(fault)) => return println!(rt; ": {}", fault),
         Err(Stop::Memory) => return Err(AllocError.into()),

@@ -3,11 +3,10 @@
 #![tactic(auto)]
 
 use elements::{Handle, Value};
-use linking::{Linked, Stop, link};
+use linking::{Linked, Stop};
+use loading::load;
 use machine::{StartError, Started, start};
 use pickers::Turning;
-use script::Empty;
-use script_laws::read_exactly;
 use std::alloc::AllocError;
 use std::io;
 use std::io::{BufWriter, Read, Write};
@@ -17,13 +16,6 @@ fn input(rt: &HostRuntime) -> io::Result<Vec<u8>> {
     let mut text = Vec::new(rt.alloc());
     rt.stdin().take(32769).read_to_end(&mut text)?;
     Ok(text)
-}
-
-// The script that the text is, linked.
-fn linked(rt: &HostRuntime, text: &[u8]) -> Result<Linked, Stop> {
-    let empty = Empty::new(rt.alloc())?;
-    let script = read_exactly(empty, text).map_err(|unread| unread.fault)?;
-    link(script, rt.alloc()).map_err(|unlinked| unlinked.stop)
 }
 
 // Steps the run with those cells and prints its reports, until a step is refused: the run is over.
@@ -62,7 +54,7 @@ fn print_run(rt: &HostRuntime, script: Linked) -> io::Result<()> {
 
 fn main(rt: HostRuntime) -> io::Result<()> {
     let text = input(&rt)?;
-    match linked(&rt, &text) {
+    match load(&text, rt.alloc()) {
         Ok(script) => print_run(&rt, script),
         Err(Stop::Faulty(fault)) => println!(rt; "{}", fault),
         Err(Stop::Memory) => Err(AllocError.into()),

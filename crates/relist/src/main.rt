@@ -1,9 +1,8 @@
 // Reads a script on standard input, links it and prints its listing, or `NO n l` where it is refused.
 #![tactic(auto)]
 
-use linking::{Linked, Stop, link};
-use script::Empty;
-use script_laws::read_exactly;
+use linking::{Linked, Stop};
+use loading::load;
 use std::alloc::AllocError;
 use std::io;
 use std::io::{Read, Write};
@@ -13,13 +12,6 @@ fn input(rt: &HostRuntime) -> io::Result<Vec<u8>> {
     let mut text = Vec::new(rt.alloc());
     rt.stdin().take(32769).read_to_end(&mut text)?;
     Ok(text)
-}
-
-// The script that the text is, linked.
-fn linked(rt: &HostRuntime, text: &[u8]) -> Result<Linked, Stop> {
-    let empty = Empty::new(rt.alloc())?;
-    let script = read_exactly(empty, text).map_err(|unread| unread.fault)?;
-    link(script, rt.alloc()).map_err(|unlinked| unlinked.stop)
 }
 
 fn print_listing(rt: &HostRuntime, script: &Linked, room: usize) -> io::Result<()> {
@@ -32,7 +24,7 @@ fn print_listing(rt: &HostRuntime, script: &Linked, room: usize) -> io::Result<(
 
 fn main(rt: HostRuntime) -> io::Result<()> {
     let text = input(&rt)?;
-    match linked(&rt, &text) {
+    match load(&text, rt.alloc()) {
         Ok(script) => print_listing(&rt, &script, text.len()),
         Err(Stop::Faulty(fault)) => println!(rt; "{}", fault),
         Err(Stop::Memory) => Err(AllocError.into()),

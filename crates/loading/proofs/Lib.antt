@@ -1,0 +1,2 @@
+-- That what is loaded is exactly the listings of scripts that have a program.
+pub mod Loads

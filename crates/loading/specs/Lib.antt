@@ -1,0 +1,2 @@
+-- What loading a text answers.
+pub mod Loads
