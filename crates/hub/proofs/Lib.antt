@@ -4,3 +4,4 @@ pub mod Sends
 pub mod Receives
 pub mod Closes
 pub mod Laid
+pub mod Asks

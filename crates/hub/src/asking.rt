@@ -4,7 +4,7 @@ ghost use Rattle.elements.specs.declared.value.Value.{Value as Number};
 ghost use Rattle.elements.specs.declared.handle.Handle.{Handle as Holder};
 ghost use Rattle.waiting.specs.Queues.{queue};
 ghost use Rattle.runs.specs.Questions.{channel_question, element_question};
-ghost use Rattle.hub.specs.Boards.{seen, enough as has_enough};
+ghost use Rattle.hub.specs.Boards.{Enough, seen, enough as has_enough};
 ghost use Rattle.hub.specs.Deals.{channel_answer};
 
 use crate::hub::Hub;
@@ -25,7 +25,7 @@ impl Hub {
     // How that channel stands. Absent where there is no such channel.
     pub fn channel(&self, number: usize) -> Result<ChannelAnswer, Refusal>
         ensures is { result ≡ channel_answer self.now number }
-        ensures seen { (vs : List Number) (hs : List Holder) → result ≡ channel_question (seen self.now vs hs) number }
+        ensures seen { (vs : List Number) (hs : List Holder) → Enough vs hs → result ≡ channel_question (seen self.now vs hs) number }
     {
         let port = self.ports.get(number).ok_or(Refusal::Absent)?;
         let receivers = self.queued(Side::Receivers, number as u8);
@@ -47,8 +47,10 @@ impl Hub {
         if !enough(values, handles) {
             return Err(Refusal::Small);
         }
-        let port = self.ports.get(number).ok_or(Refusal::Absent)?;
-        let item = port.look(values, handles, place).ok_or(Refusal::Absent)?;
-        Ok(item.code())
+        self.ports
+            .get(number)
+            .and_then(|port| port.look(values, handles, place))
+            .map(|item| item.code())
+            .ok_or(Refusal::Absent)
     }
 }

@@ -4,7 +4,7 @@ ghost use Rattle.elements.specs.declared.value.Value.{Value as Number};
 ghost use Rattle.elements.specs.declared.handle.Handle.{Handle as Holder};
 ghost use Rattle.runs.specs.Questions.{routine_question, channel_question, element_question};
 ghost use Rattle.runs.specs.Runs.{text_line};
-ghost use Rattle.hub.specs.Boards.{enough};
+ghost use Rattle.hub.specs.Boards.{Enough, enough};
 ghost use Rattle.machine.specs.Memory.{seen_run};
 
 use crate::started::Started;
@@ -38,7 +38,7 @@ impl Started {
 
     // How that channel stands, whatever its cells hold. Absent where there is no such channel.
     pub fn channel(&self, number: usize) -> Result<ChannelAnswer, Refusal>
-        ensures { (vs : List Number) (hs : List Holder) → result ≡ channel_question (seen_run self.now.memory vs hs).hub number }
+        ensures { (vs : List Number) (hs : List Holder) → Enough vs hs → result ≡ channel_question (seen_run self.now.memory vs hs).hub number }
     {
         self.memory.hub.channel(number)
     }
