@@ -29,7 +29,7 @@ use Rattle.calls.specs.declared.call.Call.TheVariants as call
 use Rattle.calls.specs.declared.answer.Answer.{Answer}
 use Rattle.calls.specs.declared.answer.Answer.TheVariants as answer
 use Rattle.calls.specs.Calls.{enough, Played, Answered, begun, tells, granted, stepping, answered, answers, after_calls}
-use Rattle.calls.specs.Laws.{report_in, reports_in, count, code, buffer_told, due_told, AlwaysLawful, CallsFollow}
+use Rattle.calls.specs.Laws.{report_in, reports_in, count, code, buffer_told, due_told, LawsHold, AlwaysLawful, CallsFollow}
 
 -- ---- a call is a step that is granted, or it reports nothing and leaves the run
 data Said (p : Program) (at : Played) : Answered → Type 0 where
@@ -139,9 +139,9 @@ stall_is p at s cells t = go (enough cells) at.run.over
         let q : (step p at.run at.meaning).report ≡ t = cc in
         subst (λ (u : Report). (a_stall u.event ≡ true) ↔ AllWait at.run) q (stalls_when_all_wait p at.run at.meaning s)
 
-pub always_lawful : AlwaysLawful
-always_lawful p sound m l cs =
-    let a = along p (sound_has_few_cases p sound) (begun p m) (record { settled = begins_settled p; lawful = l }) cs in
+pub laws_after : (p : Program) → FewCases p → (m : Meaning) → Lawful m → (calls : List Call) → LawsHold p (answers p (begun p m) calls) (after_calls p (begun p m) calls)
+laws_after p few m l cs =
+    let a = along p few (begun p m) (record { settled = begins_settled p; lawful = l }) cs in
     let at : Played = after_calls p (begun p m) cs in
     let given : List Report = reports_in (answers p (begun p m) cs) in
     record {
@@ -150,6 +150,9 @@ always_lawful p sound m l cs =
       idle = λ r k w. nobody_waits_idly p at.run a.1.settled r k w;
       stalls = stall_is p at a.1.settled;
     }
+
+pub always_lawful : AlwaysLawful
+always_lawful p sound m l cs = laws_after p (sound_has_few_cases p sound) m l cs
 
 -- ---- a list of calls after another
 pub calls_follow : CallsFollow

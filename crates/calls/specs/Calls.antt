@@ -32,9 +32,12 @@ pub record Answered : Type 0 where
   pub after : Played
 
 -- what is told or refused leaves the run as it is
+abbrev pub told : {A : Type 0} → (A → Answer) → Result A Refusal → Answer
+told f (Ok a) = f a
+told f (Err why) = answer.Refused why
+
 abbrev pub tells : {A : Type 0} → (A → Answer) → Result A Refusal → Played → Answered
-tells f (Ok a) at = record { answer = f a; after = at }
-tells f (Err why) at = record { answer = answer.Refused why; after = at }
+tells f r at = record { answer = told f r; after = at }
 
 -- a step that is granted
 abbrev pub granted : Step → Answered

@@ -1,5 +1,5 @@
 -- What carrying out calls answers and leaves: of memory, of what the picker means, and of every cell.
-use Rattle.std.specs.Prelude.{◌≡◌, ℕ, Bool, cond, ◌&&◌, not, List, [], ◌∷◌, ◌++◌, Ok, Err, Result, min}
+use Rattle.std.specs.Prelude.{◌≡◌, ℕ, Bool, cond, ◌&&◌, not, List, [], ◌∷◌, ◌++◌, length, nat_le, Ok, Err, Result}
 use Rattle.words.specs.declared.refusal.Refusal.{Refusal}
 use Rattle.words.specs.declared.refusal.Refusal.TheVariants.{Small}
 use Rattle.elements.specs.declared.value.Value.{Value}
@@ -8,25 +8,15 @@ use Rattle.linking.specs.Programs.{Program}
 use Rattle.pickers.specs.Meaning.{Meaning, Lawful}
 use Rattle.runs.specs.Runs.{Parts, Run}
 use Rattle.runs.specs.Steps.{Step, step}
-use Rattle.hub.specs.Boards.{Board}
+use Rattle.hub.specs.Boards.{Board, enough as has_cells}
 use Rattle.hub.specs.Deals.{values_after, handles_after}
 use Rattle.machine.specs.Memory.{seen_run, memory_of}
 use Rattle.calls.specs.declared.call.Cells.{Cells}
 use Rattle.calls.specs.declared.call.Call.{Call}
-use Rattle.calls.specs.declared.call.Call.TheVariants.{Step as Stepping, Routine, Channel, Element}
+use Rattle.calls.specs.declared.call.Call.TheVariants.{Step as Stepping}
 use Rattle.calls.specs.declared.answer.Answer.{Answer}
 use Rattle.calls.specs.Calls.{Played, begun, enough, answered, answers, after_calls}
 use Rattle.calls.specs.Laws.{LawsHold}
-
--- no call is handed more cells than there are, v of values and h of handles
-abbrev pub no_more : ℕ → ℕ → Cells → Cells
-no_more v h cells = record { values = min cells.values v; handles = min cells.handles h }
-
-abbrev pub handed : ℕ → ℕ → Call → Call
-handed v h (Stepping cells) = Stepping (no_more v h cells)
-handed v h (Routine r) = Routine r
-handed v h (Channel c) = Channel c
-handed v h (Element c i cells) = Element c i (no_more v h cells)
 
 -- the memory of a run, and the cells of both kinds
 pub record Kept : Type 0 where
@@ -62,12 +52,27 @@ abbrev pub kept_after : Program → Played → List Call → Kept → Kept
 kept_after p at [] k = k
 kept_after p at (c ∷ cs) k = kept_after p (answered p at c).after cs (kept_by p at c k)
 
--- the calls are carried out in order; nothing is done where there is no room for the answers
-pub record CarriedOut (p : Program) (room : Bool) (calls : List Call) (old : Kept) (m : Meaning) (items : List Answer) (result : Result (Unit {0}) Refusal) (new : Kept) (m' : Meaning) (items' : List Answer) : Type 0 where
-  pub answer : result ≡ cond room (Ok tt) (Err Small)
-  pub answers : items' ≡ items ++ cond room (answers p (played old m) calls) []
-  pub left : new ≡ cond room (kept_after p (played old m) calls old) old
-  pub run : played new m' ≡ cond room (after_calls p (played old m) calls) (played old m)
+-- a call that was made
+pub record Made (p : Program) (c : Call) (old : Kept) (m : Meaning) (a : Answer) (new : Kept) (m' : Meaning) : Type 0 where
+  pub answer : a ≡ (answered p (played old m) c).answer
+  pub left : new ≡ kept_by p (played old m) c old
+  pub run : played new m' ≡ (answered p (played old m) c).after
+
+-- a list of calls that was made
+pub record Carried (p : Program) (calls : List Call) (old : Kept) (m : Meaning) (items : List Answer) (new : Kept) (m' : Meaning) (items' : List Answer) : Type 0 where
+  pub answers : items' ≡ items ++ answers p (played old m) calls
+  pub left : new ≡ kept_after p (played old m) calls old
+  pub run : played new m' ≡ after_calls p (played old m) calls
+
+-- The calls are carried out in order. Nothing is done where there are too few cells, or no room for the answers.
+abbrev pub may_begin : List Value → List Handle → ℕ → List Call → Bool
+may_begin vs hs room calls = has_cells vs hs && nat_le (length calls) room
+
+pub record CarriedOut (p : Program) (may : Bool) (calls : List Call) (old : Kept) (m : Meaning) (items : List Answer) (result : Result (Unit {0}) Refusal) (new : Kept) (m' : Meaning) (items' : List Answer) : Type 0 where
+  pub answer : result ≡ cond may (Ok tt) (Err Small)
+  pub answers : items' ≡ items ++ cond may (answers p (played old m) calls) []
+  pub left : new ≡ cond may (kept_after p (played old m) calls old) old
+  pub run : played new m' ≡ cond may (after_calls p (played old m) calls) (played old m)
 
 -- Whatever calls led from the start to this run: the laws hold now, and after each of these calls, of all the answers given since
 -- the start, with any picker that kept its laws then.

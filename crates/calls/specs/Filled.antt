@@ -13,7 +13,7 @@ use Rattle.hub.specs.Deals.{value_written, handle_written}
 use Rattle.machine.specs.Starts.{first_memory}
 use Rattle.calls.specs.declared.call.Call.{Call}
 use Rattle.calls.specs.declared.call.Call.TheVariants.{Step as Stepping}
-use Rattle.calls.specs.Calls.{Played, begun, answered}
+use Rattle.calls.specs.Calls.{Played, begun, answered, after_calls}
 use Rattle.calls.specs.Carried.{Kept, is_granted, kept_after}
 
 -- an element that is buffered, and the channel
@@ -71,3 +71,9 @@ pub record EachInItsCell (p : Program) (m : Meaning) (calls : List Call) (vs : L
 abbrev pub CellsFromStart : Program → Type 0
 CellsFromStart p = (m : Meaning) → Lawful m → (vs : List Value) (hs : List Handle) (calls : List Call)
     → EachInItsCell p m calls vs hs (kept_after p (begun p m) calls (first_kept p vs hs))
+
+-- Whatever calls led from the start to this run and to what is kept: after these calls too each element is in its cell.
+abbrev pub FilledFromStart : Program → Played → List Call → Kept → Type 0
+FilledFromStart p at calls k = (m : Meaning) → Lawful m → (vs : List Value) (hs : List Handle) (earlier : List Call)
+    → after_calls p (begun p m) earlier ≡ at → kept_after p (begun p m) earlier (first_kept p vs hs) ≡ k
+    → EachInItsCell p m (earlier ++ calls) vs hs (kept_after p at calls k)

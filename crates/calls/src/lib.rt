@@ -1,10 +1,12 @@
-// Calls on a started run and their answers, as data, and the laws that hold over every list of calls.
+// Calls on a started script and their answers, as data; carrying them out; and the laws that hold over every list of calls.
 #![tactic(auto)]
 
 mod answer;
 mod call;
+mod carry_out;
 mod laws;
 
 pub use answer::Answer;
 pub use call::{Call, Cells};
+pub use carry_out::carry_out;
 pub use laws::laws_hold;

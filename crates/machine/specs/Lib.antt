@@ -1,3 +1,4 @@
 pub mod Memory
 pub mod Needs
 pub mod Starts
+pub mod Placing

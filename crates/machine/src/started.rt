@@ -5,7 +5,9 @@ ghost use Rattle.std.proofs.lemmas.Map.Keys.{IsDistinct-prop};
 ghost use Rattle.runs.specs.Steps.{step};
 ghost use Rattle.words.specs.Pages.{Printed};
 ghost use Rattle.script.specs.Texts.{show};
+ghost use Rattle.hub.specs.Boards.{Placed};
 ghost use Rattle.machine.specs.Memory.{Stepped, refused, seen_run};
+ghost use Rattle.machine.specs.Placing.{placed_prop};
 
 use crate::memory::Memory;
 use elements::{Handle, Value};
@@ -14,8 +16,9 @@ use pickers::Picker;
 use reports::Report;
 use words::Refusal;
 
-// A linked script with the memory of its run. Nobody in it has two turns, or waits twice, or waits and has a turn, and its channels
-// are those of the script: each step keeps this. Ghost fields say so, and no Model, whose invariant would not be seen elsewhere.
+// A linked script with the memory of its run. Nobody in it has two turns, or waits twice, or waits and has a turn; its channels
+// are those of the script, and lie one behind the other in the cells that there are: each step keeps this. Ghost fields say so, and
+// no Model, whose invariant would not be seen elsewhere.
 #[derive(Drop)]
 pub struct Started {
     pub(crate) linked: Linked,
@@ -25,6 +28,7 @@ pub struct Started {
     ghost there: { All (λ r. r < length memory.routines) (memory.turns ++ memory.hub.line) },
     ghost once: { IsDistinct ◌==◌ (memory.turns ++ memory.hub.line) } by { IsDistinct-prop ◌==◌ (memory.turns ++ memory.hub.line) },
     ghost channels: { length memory.hub.ports ≡ length linked.program.channels },
+    ghost placed: { Placed 0 0 0 memory.hub.ports } by { placed_prop 0 0 0 memory.hub.ports },
 }
 
 impl Started {
@@ -46,7 +50,10 @@ impl Started {
             return Err(Refusal::Over);
         }
         let Started { linked, memory } = self;
-        Ok(memory.turn(linked, picker, values, handles))
+        let report = memory.turn(linked, picker, values, handles);
+        // tells that the channels still lie in their cells
+        prove!(memory.hub.waiting() <= 64);
+        Ok(report)
     }
 
     // Writes the text of the script at the front of `out`, and answers its length.

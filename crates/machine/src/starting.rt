@@ -65,6 +65,8 @@ pub fn start(
     match Memory::new(&linked, heap) {
         Ok(memory) => {
             let _ = memory.hub.clear(values, handles);
+            // tells that the channels lie in their cells
+            prove!(memory.hub.waiting() <= 64);
             Ok(Started { linked, memory })
         }
         Err(_) => {

@@ -4,7 +4,7 @@ use Rattle.lines.specs.declared.line.Kind.TheVariants.{Value as ValueKind, Handl
 use Rattle.elements.specs.Codes.{value_zero, nil_handle}
 use Rattle.rings.specs.Contents.{cleared}
 use Rattle.runs.specs.Runs.{Parts}
-use Rattle.hub.specs.Boards.{Board, cells, enough}
+use Rattle.hub.specs.Boards.{Board, Placed, cells, enough}
 use Rattle.machine.proofs.Beginning.{are_enough, begins_in_order, begins_with_channels, begun}
 use Rattle.machine.proofs.starting.start.Goals as goal
 
@@ -12,7 +12,7 @@ pub invariant_of-result : goal.invariant_of-result
 invariant_of-result c =
     let p = c.args.linked.program in
     let o = begins_in_order p c.in-Ok.memory c.in-Ok.ensures in
-    record { few = o.few; count = o.count; there = o.there; once = o.once; channels = begins_with_channels p c.in-Ok.memory c.in-Ok.ensures }
+    record { few = o.few; count = o.count; there = o.there; once = o.once; channels = begins_with_channels p c.in-Ok.memory c.in-Ok.ensures; placed = subst (λ (n : Parts Board). Placed 0 0 0 n.hub.ports) c.memory.view_is c.waiting.ensures.placed }
 
 pub returns-in-Ok : goal.returns-in-Ok
 returns-in-Ok c =
