@@ -1,13 +1,11 @@
 -- The laws of a run in the middle, from those of all calls since its start.
-use Rattle.std.proofs.Common.{◌≡◌, List, [], ◌∷◌, ◌++◌, sym, refl, ap, ◌∙◌, subst}
-use Rattle.std.specs.Prelude.{length}
+use Rattle.std.proofs.Common.{◌≡◌, List, [], ◌∷◌, ◌++◌, refl, ap, ◌∙◌, subst}
 use Rattle.std.proofs.Math.Bridge.{le_prop}
 use Rattle.std.proofs.Math.Logic.{∥∥₁_elim}
 use Rattle.linking.specs.Programs.{Program}
 use Rattle.linking.specs.Sound.{Sound}
 use Rattle.run_laws.specs.Settled.{FewCases}
 use Rattle.run_laws.proofs.Waits.{sound_has_few_cases}
-use Rattle.runs.specs.Steps.{branches}
 use Rattle.calls.specs.declared.call.Call.{Call}
 use Rattle.calls.specs.declared.answer.Answer.{Answer}
 use Rattle.calls.specs.Calls.{Played, begun, answered, answers, after_calls}

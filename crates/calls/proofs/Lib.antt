@@ -3,4 +3,4 @@ pub mod Along
 pub mod Making
 pub mod Filled
 pub mod FromStart
-pub mod Carrying
+pub mod OneMore

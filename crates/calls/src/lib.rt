@@ -3,10 +3,10 @@
 
 mod answer;
 mod call;
-mod carry_out;
+mod carrying;
 mod laws;
 
 pub use answer::Answer;
 pub use call::{Call, Cells};
-pub use carry_out::carry_out;
+pub use carrying::carry_out;
 pub use laws::laws_hold;

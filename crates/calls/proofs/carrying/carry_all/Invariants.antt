@@ -1,7 +1,7 @@
 -- The first calls were made, and there is room for the answers of the others.
 use Rattle.std.proofs.Common.{◌≡◌, ◌+◌, take, vec_len, vec_capacity}
 use Rattle.calls.specs.Carried.{Carried}
-use Rattle.calls.proofs.carry_out.carry_all.Given as goal
+use Rattle.calls.proofs.carrying.carry_all.Given as goal
 
 abbrev pub invariant-loop-call : goal.invariant-loop-call
 invariant-loop-call g l = record {

@@ -6,7 +6,7 @@ use Rattle.pickers.specs.Meaning.{Meaning}
 use Rattle.calls.specs.declared.call.Call.{Call}
 use Rattle.calls.specs.declared.answer.Answer.{Answer}
 use Rattle.calls.specs.Calls.{Played, answered, answers, after_calls}
-use Rattle.calls.specs.Carried.{Kept, kept_by, kept_after, played, Made, Carried}
+use Rattle.calls.specs.Carried.{Kept, kept_by, played, Made, Carried}
 use Rattle.calls.proofs.Along.{calls_follow}
 use Rattle.calls.proofs.FromStart.{kept_follow}
 

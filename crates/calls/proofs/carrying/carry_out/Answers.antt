@@ -1,5 +1,5 @@
 use Rattle.calls.proofs.FromStart.{laws_from_start, filled_from_start}
-use Rattle.calls.proofs.carry_out.carry_out.Goals as goal
+use Rattle.calls.proofs.carrying.carry_out.Goals as goal
 
 pub returns-then-not-may_begin-clause-laws : goal.returns-then-not-may_begin-clause-laws
 returns-then-not-may_begin-clause-laws g c = laws_from_start c.args.run.now.linked.program c.args.run.now.linked.sound _ c.args.calls.now

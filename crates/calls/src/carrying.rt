@@ -36,9 +36,12 @@ fn step<P: Picker>(
     ensures made { Made run.old.linked.program (Stepping cells) (record { memory = run.old.memory; values = values.old; handles = handles.old }) (P.meaning picker.old) result (record { memory = run.new.memory; values = values.new; handles = handles.new }) (P.meaning picker.new) }
     ensures script { run.new.linked ≡ run.old.linked }
 {
-    let v = cells.values.min(values.len());
-    let h = cells.handles.min(handles.len());
-    report_of(run.step(picker, &mut values[..v], &mut handles[..h]))
+    let some = cells.within(values, handles);
+    report_of(run.step(
+        picker,
+        &mut values[..some.values],
+        &mut handles[..some.handles],
+    ))
 }
 
 // The code of an element, asked for with no more than those cells.
@@ -53,9 +56,13 @@ fn code_at(
     requires { Enough values.now handles.now }
     ensures { result ≡ element_question (seen_run run.now.memory values.now handles.now).hub number place (enough cells) }
 {
-    let v = cells.values.min(values.len());
-    let h = cells.handles.min(handles.len());
-    run.element(number, place, &values[..v], &handles[..h])
+    let some = cells.within(values, handles);
+    run.element(
+        number,
+        place,
+        &values[..some.values],
+        &handles[..some.handles],
+    )
 }
 
 // What that call answers.

@@ -3,8 +3,8 @@ use Rattle.linking.specs.declared.linked.Linked.{Linked}
 use Rattle.calls.specs.declared.call.Call.{Call}
 use Rattle.calls.specs.declared.call.Call.TheVariants.{Step as Stepping}
 use Rattle.calls.specs.Carried.{Kept, Made}
-use Rattle.calls.proofs.Carrying.{none_carried, next_carried, all_carried}
-use Rattle.calls.proofs.carry_out.carry_all.Goals as goal
+use Rattle.calls.proofs.OneMore.{none_carried, next_carried, all_carried}
+use Rattle.calls.proofs.carrying.carry_all.Goals as goal
 
 pub loop-call-init : goal.loop-call-init
 loop-call-init g c = record { made = none_carried _ _ _ _; script = refl; noted = omega arith; room = refl }
