@@ -2,7 +2,8 @@
 // made. A refused script prints only `NO n l`.
 #![tactic(auto)]
 
-use elements::{Handle, Value};
+use calls::{Answer, Call, Cells, carry_out};
+use elements::{Element, Handle, Value};
 use linking::{Linked, Stop};
 use loading::load;
 use machine::{StartError, Started, start};
@@ -11,6 +12,12 @@ use std::alloc::AllocError;
 use std::io;
 use std::io::{BufWriter, Read, Write};
 
+// A step with all cells that a script can need.
+const STEP: Call = Call::Step(Cells {
+    values: Value::CELLS,
+    handles: Handle::CELLS,
+});
+
 // Standard input, as far as one byte past the longest script.
 fn input(rt: &HostRuntime) -> io::Result<Vec<u8>> {
     let mut text = Vec::new(rt.alloc());
@@ -18,7 +25,21 @@ fn input(rt: &HostRuntime) -> io::Result<Vec<u8>> {
     Ok(text)
 }
 
-// Steps the run with those cells and prints its reports, until a step is refused: the run is over.
+// Prints the reports, and answers whether all are reports: a refused step says that the run is over.
+fn print_reports<W: Write>(out: &mut W, answers: &[Answer]) -> io::Result<bool> {
+    let mut line = [0u8; 128];
+    for answer in answers {
+        let Answer::Report(report) = answer else {
+            return Ok(false);
+        };
+        if let Ok(len) = report.print(&mut line) {
+            out.write_all(&line[..len])?;
+        }
+    }
+    Ok(true)
+}
+
+// Steps the run with those cells, 100 steps at a time, and prints its reports.
 fn print_steps(
     rt: &HostRuntime,
     mut run: Started,
@@ -26,23 +47,29 @@ fn print_steps(
     handles: &mut [Handle],
 ) -> io::Result<()> {
     let mut picker = Turning::new();
-    let mut lines = BufWriter::new(rt.alloc(), io::writer(rt))?;
-    let mut line = [0u8; 128];
-    for _ in 0..100_000_u32 {
-        let Ok(report) = run.step(&mut picker, values, handles) else {
+    let mut out = BufWriter::new(rt.alloc(), io::writer(rt))?;
+    let mut answers = Vec::with_capacity(rt.alloc(), 100)?;
+    for _ in 0..1000_u32 {
+        answers.clear();
+        let _ = carry_out(
+            &mut run,
+            &mut picker,
+            values,
+            handles,
+            &[STEP; 100],
+            &mut answers,
+        );
+        if !print_reports(&mut out, &answers)? {
             break;
-        };
-        if let Ok(len) = report.print(&mut line) {
-            lines.write_all(&line[..len])?;
         }
     }
-    lines.flush()
+    out.flush()
 }
 
 // Starts the script with all cells that a script can need.
 fn print_run(rt: &HostRuntime, script: Linked) -> io::Result<()> {
-    let mut values = vec![in rt.alloc(); Value { number: 0 }; 512]?;
-    let mut handles = vec![in rt.alloc(); Handle::nil(); 128]?;
+    let mut values = vec![in rt.alloc(); Value::zero(); Value::CELLS]?;
+    let mut handles = vec![in rt.alloc(); Handle::nil(); Handle::CELLS]?;
     match start(script, &mut values, &mut handles, rt.alloc()) {
         Ok(run) => print_steps(rt, run, &mut values, &mut handles),
         Err(unstarted) => match unstarted.error {
