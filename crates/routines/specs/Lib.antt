@@ -1,2 +1,3 @@
 pub mod Items
 pub mod Registers
+pub mod States

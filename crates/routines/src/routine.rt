@@ -1,9 +1,11 @@
 // A routine as data, and how one begins.
-ghost use Rattle.std.specs.Prelude.{◌≡◌};
+ghost use Rattle.std.specs.Prelude.{◌≡◌, Some};
 ghost use Rattle.routines.specs.Registers.{first, born};
+ghost use Rattle.routines.specs.States.{state_word};
 
 use crate::item::Item;
 use elements::{Element, Handle, Value};
+use std::fmt;
 
 // How a routine passes by a case that it was released with. Channels go by their number. Not a report's `Pass`: that has
 // the code of an element, and a default, by which nobody is released.
@@ -32,6 +34,19 @@ pub enum State {
     // by that case, in that way; its turn is still to come
     Released(u8, Passed),
     Ended,
+}
+
+impl fmt::Display for State {
+    ghost output = { λ state. Some (state_word state) };
+
+    fn fmt<W: fmt::Write>(&self, f: &mut fmt::Formatter<W>) -> fmt::Result {
+        match *self {
+            State::Ready => write!(f, "ready"),
+            State::Waiting => write!(f, "waiting"),
+            State::Released(_, _) => write!(f, "released"),
+            State::Ended => write!(f, "ended"),
+        }
+    }
 }
 
 // Which body it runs, the line of it that it is at, counted from 0, and its registers.
