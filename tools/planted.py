@@ -3,8 +3,9 @@
 them. Bugs are made by rules from the lines of function bodies in src/, a few of every kind, always the same ones for the
 same code. One that does not compile is passed over and another is planted for it.
 usage: python3 tools/planted.py [--each N] [--jobs N] [--out FILE] [CRATE..]
-Prints a row for each bug: the crate, the kind, the place, the line with the bug, and what refused it; the last line is
-'N refused, M proved'. A bug that is proved means the same as the code, or its contract is too weak."""
+Prints a row for each bug: the crate, the kind, the place, the line as it was and with the bug, and what refused it; the last line
+is 'N refused, M proved'. A bug that is proved means the same as the code, or its contract is too weak. With --out the
+rows of each crate are written to FILE as a table, in place of those that it had."""
 import argparse, os, re, shutil, subprocess, sys, tempfile, threading
 
 TOP = os.path.join(os.path.dirname(os.path.abspath(__file__)), '..')
@@ -146,6 +147,24 @@ def plant(copy, crate, each, rows, lock):
             print(' | '.join(rows[-1]), flush=True)
 
 
+def cell(text):
+    return '`%s`' % text.replace('|', '\\|') if text else ''
+
+
+def write(path, listed, rows):
+    "puts the tables of these crates in place of theirs in the page: a part for each crate, headed by its name"
+    head, *parts = open(path).read().split('\n## ') if os.path.exists(path) else ['']
+    kept = {part.split('\n', 1)[0].strip('`'): part for part in parts}
+    for crate in listed:
+        own = [row for row in rows if row[0] == crate]
+        if own:
+            lines = ['`%s`\n' % crate, '| Kind | Place | The line | With the bug | Refused by |', '|---|---|---|---|---|']
+            lines += ['| %s | %s | %s | %s | %s |' % (row[1], row[2], cell(row[3]), cell(row[4]) or 'nothing stands there', cell(row[6]) or '**proved**') for row in own]
+            kept[crate] = '\n'.join(lines) + '\n'
+    last = [part for name, part in kept.items() if name not in listed]
+    open(path, 'w').write('\n## '.join([head] + [kept[c] for c in listed if c in kept] + last))
+
+
 def main():
     args = argparse.ArgumentParser()
     args.add_argument('--each', type=int, default=14)
@@ -174,9 +193,7 @@ def main():
     for w in workers:
         w.join()
     if args.out:
-        with open(args.out, 'w') as out:
-            for row in rows:
-                out.write('\t'.join(row) + '\n')
+        write(args.out, listed, rows)
     proved = [row for row in rows if row[5] == 'proved']
     print('%d refused, %d proved' % (len(rows) - len(proved), len(proved)))
 
