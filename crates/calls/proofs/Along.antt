@@ -10,7 +10,10 @@ use Rattle.words.specs.declared.refusal.Refusal.TheVariants.{Small, Over}
 use Rattle.routines.specs.declared.item.Item.{Item}
 use Rattle.routines.specs.declared.routine.Routine.{Routine}
 use Rattle.routines.specs.Items.{code_of}
-use Rattle.runs.specs.Runs.{Channel, Run, channel}
+use Rattle.channels.specs.Settled.{some}
+use Rattle.waiting.specs.declared.wish.Side.TheVariants.{Receivers, Senders}
+use Rattle.runs.specs.declared.answer.ChannelAnswer.{ChannelAnswer}
+use Rattle.runs.specs.Runs.{Channel, Run, channel, queued}
 use Rattle.runs.specs.Questions.{if_there, routine_told, routine_question, channel_told, channel_question, no_item, code_told, element_question}
 use Rattle.runs.specs.Steps.{step}
 use Rattle.run_laws.specs.Elements.{held, codes_on, accepted_on, received_on}
@@ -18,7 +21,7 @@ use Rattle.run_laws.specs.Moves.{due_in, due, moves, passed_by, all_moves, all_p
 use Rattle.run_laws.specs.Settled.{Settled, FewCases}
 use Rattle.run_laws.specs.Waits.{a_stall, AllWait}
 use Rattle.run_laws.proofs.Settled.{begins_settled, step_settled, step_lawful}
-use Rattle.run_laws.proofs.Waits.{nobody_waits_idly, stalls_when_all_wait, sound_has_few_cases}
+use Rattle.run_laws.proofs.Waits.{nobody_waits_idly, stalls_when_all_wait, sound_has_few_cases, channels_guarded}
 use Rattle.run_laws.proofs.Elements.{step_keeps_elements, chain, past_end, new_empty}
 use Rattle.run_laws.proofs.Links.{routine_past}
 use Rattle.run_laws.proofs.Moves.{step_keeps_moves, first_due}
@@ -29,7 +32,7 @@ use Rattle.calls.specs.declared.call.Call.TheVariants as call
 use Rattle.calls.specs.declared.answer.Answer.{Answer}
 use Rattle.calls.specs.declared.answer.Answer.TheVariants as answer
 use Rattle.calls.specs.Calls.{enough, Played, Answered, begun, tells, granted, stepping, answered, answers, after_calls}
-use Rattle.calls.specs.Laws.{report_in, reports_in, count, code, buffer_told, due_told, LawsHold, AlwaysLawful, CallsFollow}
+use Rattle.calls.specs.Laws.{report_in, reports_in, count, code, buffer_told, due_told, Guarded, LawsHold, AlwaysLawful, CallsFollow}
 
 -- ---- a call is a step that is granted, or it reports nothing and leaves the run
 data Said (p : Program) (at : Played) : Answered → Type 0 where
@@ -139,6 +142,25 @@ stall_is p at s cells t = go (enough cells) at.run.over
         let q : (step p at.run at.meaning).report ≡ t = cc in
         subst (λ (u : Report). (a_stall u.event ≡ true) ↔ AllWait at.run) q (stalls_when_all_wait p at.run at.meaning s)
 
+-- ---- how a channel stands
+told_is : {A : Type 0} (b : Bool) (x t : A) → if_there b x ≡ Ok t → x ≡ t
+told_is true x t e = cc
+told_is false x t e = cc
+
+somebody : {A : Type 0} (xs : List A) → 0 < length xs → some xs ≡ true
+somebody [] l = absurd (omega arith)
+somebody (x ∷ xs) l = refl
+
+guarded : (p : Program) (run : Run) → Settled p run → (c : ℕ) (t : ChannelAnswer) → channel_question run.hub c ≡ Ok t → Guarded t
+guarded p run s c t e =
+    let g = channels_guarded p run s c in
+    let told : Guarded (channel_told run.hub c) = record {
+      few = g.few;
+      receivers_wait = λ l. let r = g.receivers_wait (somebody (queued run.hub Receivers c) l) in (r.0, ap length r.1);
+      senders_wait = λ l. g.senders_wait (somebody (queued run.hub Senders c) l);
+    } in
+    subst Guarded (told_is (ltb c (length run.hub.channels)) (channel_told run.hub c) t e) told
+
 pub laws_after : (p : Program) → FewCases p → (m : Meaning) → Lawful m → (calls : List Call) → LawsHold p (answers p (begun p m) calls) (after_calls p (begun p m) calls)
 laws_after p few m l cs =
     let a = along p few (begun p m) (record { settled = begins_settled p; lawful = l }) cs in
@@ -147,6 +169,7 @@ laws_after p few m l cs =
     record {
       elements = λ c. sym (ap (λ b. map code_of b ++ accepted_on c given) (new_empty p.channels c)) ∙ a.0.elements c ∙ ap (λ b. received_on c given ++ b) (sym (buffer_is at.run c));
       moves = λ r. sym (ap (λ d. d ++ all_moves r given) (first_due p r)) ∙ a.0.moves r ∙ ap (λ d. all_passed r given ++ d) (sym (due_is at.run p r));
+      channels = guarded p at.run a.1.settled;
       idle = λ r k w. nobody_waits_idly p at.run a.1.settled r k w;
       stalls = stall_is p at a.1.settled;
     }

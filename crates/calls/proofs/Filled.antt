@@ -25,7 +25,8 @@ use Rattle.routines.specs.declared.routine.Passed.{Passed}
 use Rattle.routines.specs.declared.routine.Passed.TheVariants.{Sent, Received, Drained, Broken}
 use Rattle.routines.specs.Items.{as_kind}
 use Rattle.runs.specs.Runs.{Channel, Hub, Run, no_channel, channel, routine, queued, text_line, with_buffer, leaves, new_channel, started}
-use Rattle.runs.specs.Cases.{Branch, can_go, some, wish_of}
+use Rattle.runs.specs.Cases.{Branch, can_go, wish_of}
+use Rattle.channels.specs.Settled.{some}
 use Rattle.runs.specs.Questions.{routine_question, channel_question, element_question}
 use Rattle.runs.specs.Taking.{take as take_case, send_on, receive_on, offered, dismissals, closed_at}
 use Rattle.runs.specs.Steps.{Step, Taken, taken_by, nothing_moved, passing, branch_at, branches, ending, step}
@@ -48,7 +49,7 @@ use Rattle.calls.specs.declared.answer.Answer.{Answer}
 use Rattle.calls.specs.declared.answer.Answer.TheVariants as answer
 use Rattle.calls.specs.Calls.{Played, begun, enough, tells, granted, stepping}
 use Rattle.calls.specs.Carried.{Kept, stepped, kept_after}
-use Rattle.calls.specs.Filled.{Buffered, if_any, all_buffered, no_declared, declared, first_cell, cell_for, how_many, values_filled, handles_filled, first_kept, CellsFromStart}
+use Rattle.calls.specs.Filled.{Buffered, if_any, all_buffered, no_declared, declared, first_cell, cell_for, how_many, values_filled, handles_filled, first_kept, EachInItsCell}
 use Rattle.calls.proofs.Along.{Fine, along}
 
 -- ---- a ring in turn: so many elements were ever put there, and so many it holds
@@ -396,7 +397,8 @@ module _ (p : Program) (few : FewCases p) where
   filled (Asking c ∷ cs) at f before k t = told_filled cs (filled cs) at f before k t answer.Channel (channel_question at.run.hub c)
   filled (Element c i cells ∷ cs) at f before k t = told_filled cs (filled cs) at f before k t answer.Element (element_question at.run.hub c i (enough cells))
 
-pub cells_filled : (p : Program) → FewCases p → CellsFromStart p
+pub cells_filled : (p : Program) → FewCases p → (m : Meaning) → Lawful m → (vs : List Value) (hs : List Handle) (calls : List Call)
+    → EachInItsCell p m calls vs hs (kept_after p (begun p m) calls (first_kept p vs hs))
 cells_filled p few m l vs hs calls =
     let r = filled p few calls (begun p m) (record { settled = begins_settled p; lawful = l }) [] (first_kept p vs hs) (begins_in_turn p) in
     record { values = r.values; handles = r.handles }

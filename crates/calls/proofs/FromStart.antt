@@ -10,7 +10,7 @@ use Rattle.calls.specs.declared.call.Call.{Call}
 use Rattle.calls.specs.declared.answer.Answer.{Answer}
 use Rattle.calls.specs.Calls.{Played, begun, answered, answers, after_calls}
 use Rattle.calls.specs.Laws.{LawsHold}
-use Rattle.calls.specs.Carried.{Kept, kept_by, kept_after, LawsFromStart}
+use Rattle.calls.specs.Carried.{Kept, kept_by, kept_after, KeptFollow, LawsFromStart}
 use Rattle.calls.specs.Filled.{EachInItsCell, FilledFromStart, first_kept}
 use Rattle.calls.proofs.Along.{laws_after, calls_follow}
 use Rattle.calls.proofs.Filled.{cells_filled}
@@ -29,12 +29,12 @@ laws_from_start p sound at calls m l earlier is done rest split =
     (subst (LawsHold p (answers p (begun p m) (earlier ++ done))) f.1 (laws_after p (few_cases p sound) m l (earlier ++ done))))
 
 -- what a list of calls after another leaves
-pub kept_follow : (p : Program) (at : Played) (xs ys : List Call) (k : Kept) → kept_after p at (xs ++ ys) k ≡ kept_after p (after_calls p at xs) ys (kept_after p at xs k)
+pub kept_follow : KeptFollow
 kept_follow p at [] ys k = refl
 kept_follow p at (x ∷ xs) ys k = kept_follow p (answered p at x).after xs ys (kept_by p at x k)
 
 pub filled_from_start : (p : Program) → ∥ Sound p ∥₁ → (at : Played) (calls : List Call) (k : Kept) → FilledFromStart p at calls k
-filled_from_start p sound at calls k m l vs hs earlier is kept =
-    subst (EachInItsCell p m (earlier ++ calls) vs hs)
-    (kept_follow p (begun p m) earlier calls (first_kept p vs hs) ∙ ap (λ q. kept_after p (after_calls p (begun p m) earlier) calls q) kept ∙ ap (λ q. kept_after p q calls k) is)
-    (cells_filled p (few_cases p sound) m l vs hs (earlier ++ calls))
+filled_from_start p sound at calls k m l vs hs earlier is kept done rest split =
+    subst (EachInItsCell p m (earlier ++ done) vs hs)
+    (kept_follow p (begun p m) earlier done (first_kept p vs hs) ∙ ap (λ q. kept_after p (after_calls p (begun p m) earlier) done q) kept ∙ ap (λ q. kept_after p q done k) is)
+    (cells_filled p (few_cases p sound) m l vs hs (earlier ++ done))

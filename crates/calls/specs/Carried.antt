@@ -31,8 +31,7 @@ seen k = seen_run k.memory k.values k.handles
 abbrev pub played : Kept → Meaning → Played
 played k m = record { run = seen k; meaning = m }
 
--- ---- what is left when calls are made of a run in the subject's words
--- of a step
+-- ---- what calls leave of memory and of the cells, made of that run
 abbrev pub stepped : Step → Kept → Kept
 stepped s k = record {
   memory = memory_of s k.memory;
@@ -51,6 +50,11 @@ kept_by p at _ k = k
 abbrev pub kept_after : Program → Played → List Call → Kept → Kept
 kept_after p at [] k = k
 kept_after p at (c ∷ cs) k = kept_after p (answered p at c).after cs (kept_by p at c k)
+
+-- what the calls of two lists leave, one after the other, is what the list of both leaves
+abbrev pub KeptFollow : Type 0
+KeptFollow = (p : Program) (at : Played) (xs ys : List Call) (k : Kept)
+    → kept_after p at (xs ++ ys) k ≡ kept_after p (after_calls p at xs) ys (kept_after p at xs k)
 
 -- a call that was made
 pub record Made (p : Program) (c : Call) (old : Kept) (m : Meaning) (a : Answer) (new : Kept) (m' : Meaning) : Type 0 where

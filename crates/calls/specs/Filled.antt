@@ -33,13 +33,14 @@ abbrev pub all_buffered : Program → Played → List Call → List Buffered
 all_buffered p at [] = []
 all_buffered p at (c ∷ cs) = buffered_by p at c ++ all_buffered p (answered p at c).after cs
 
--- the cells of a channel begin after the capacities of the earlier channels of its kind
+-- ---- cells
 abbrev pub no_declared : Declared
 no_declared = record { kind = ValueKind; capacity = 0 }
 
 abbrev pub declared : List Declared → ℕ → Declared
 declared ds c = slice_index_or ds c no_declared
 
+-- the cells of a channel begin after the capacities of the earlier channels of its kind
 abbrev pub first_cell : List Declared → ℕ → ℕ
 first_cell ds c = sum_by (cells_for (declared ds c).kind) (take c ds)
 
@@ -68,12 +69,9 @@ pub record EachInItsCell (p : Program) (m : Meaning) (calls : List Call) (vs : L
   pub values : k.values ≡ values_filled p.channels [] (all_buffered p (begun p m) calls) vs
   pub handles : k.handles ≡ handles_filled p.channels [] (all_buffered p (begun p m) calls) hs
 
-abbrev pub CellsFromStart : Program → Type 0
-CellsFromStart p = (m : Meaning) → Lawful m → (vs : List Value) (hs : List Handle) (calls : List Call)
-    → EachInItsCell p m calls vs hs (kept_after p (begun p m) calls (first_kept p vs hs))
-
--- Whatever calls led from the start to this run and to what is kept: after these calls too each element is in its cell.
+-- Whatever calls led from the start to this run and to what is kept: now, and after each of these calls, each element is in its cell.
 abbrev pub FilledFromStart : Program → Played → List Call → Kept → Type 0
 FilledFromStart p at calls k = (m : Meaning) → Lawful m → (vs : List Value) (hs : List Handle) (earlier : List Call)
     → after_calls p (begun p m) earlier ≡ at → kept_after p (begun p m) earlier (first_kept p vs hs) ≡ k
-    → EachInItsCell p m (earlier ++ calls) vs hs (kept_after p at calls k)
+    → (done rest : List Call) → calls ≡ done ++ rest
+    → EachInItsCell p m (earlier ++ done) vs hs (kept_after p at done k)

@@ -1,5 +1,5 @@
 -- The laws that hold at the start and after each call, over the answers given since the start.
-use Rattle.std.specs.Prelude.{◌≡◌, ℕ, true, ◌↔◌, List, [], ◌∷◌, ◌++◌, map, Ok, Err, Result}
+use Rattle.std.specs.Prelude.{◌≡◌, ℕ, ◌<◌, ◌≤◌, true, false, ◌↔◌, List, [], ◌∷◌, ◌++◌, map, Ok, Err, Result}
 use Rattle.std.specs.List.{flat_map, range_with_len}
 use Rattle.words.specs.declared.refusal.Refusal.{Refusal}
 use Rattle.linking.specs.Programs.{Program}
@@ -48,12 +48,20 @@ abbrev pub due_told : Result RoutineAnswer Refusal → List Moved
 due_told (Ok t) = due_in t.state
 due_told (Err why) = []
 
+-- what the channel question tells of a channel that is guarded
+pub record Guarded (t : ChannelAnswer) : Type 0 where
+  pub few : t.count ≤ t.capacity
+  pub receivers_wait : 0 < t.receivers → (t.closed ≡ false) × (t.count ≡ 0)
+  pub senders_wait : 0 < t.senders → (t.closed ≡ false) × (t.count ≡ t.capacity)
+
 -- ---- the laws, when these answers have been given and the run stands so
 pub record LawsHold (p : Program) (given : List Answer) (at : Played) : Type 0 where
   -- a channel's accepted codes are its received ones, in order, and then what it buffers
   pub elements : (c : ℕ) → accepted_on c (reports_in given) ≡ received_on c (reports_in given) ++ buffer_told at.run c
   -- the moves naming a routine are those it reported passing by, in order, and then the one it was released with
   pub moves : (r : ℕ) → all_moves r (reports_in given) ≡ all_passed r (reports_in given) ++ due_told (routine_question p at.run r)
+  -- a channel buffers at most its capacity; receivers wait only where it is open and empty, senders only where it is open and full
+  pub channels : (c : ℕ) (t : ChannelAnswer) → channel_question at.run.hub c ≡ Ok t → Guarded t
   -- nobody waits who can go
   pub idle : (r k : ℕ) → (routine at.run r).state ≡ Waiting → CanGo p at.run r (wish_at p at.run r k) → ⊥
   -- a step that is granted next stalls just when all who live wait

@@ -3,7 +3,7 @@ ghost use Rattle.std.specs.Prelude.{◌≡◌, ◌-◌, ◌≤◌, length, vec_l
 ghost use Rattle.runs.specs.Questions.{element_question};
 ghost use Rattle.hub.specs.Boards.{Enough};
 ghost use Rattle.machine.specs.Memory.{seen_run};
-ghost use Rattle.calls.specs.Calls.{enough, told, answered};
+ghost use Rattle.calls.specs.Calls.{enough as enough_handed, told};
 ghost use Rattle.calls.specs.declared.answer.Answer.TheVariants.{Report as OfReport};
 ghost use Rattle.calls.specs.Carried.{Made, Carried, CarriedOut, LawsFromStart, may_begin, played};
 ghost use Rattle.calls.specs.Filled.{FilledFromStart};
@@ -12,6 +12,7 @@ ghost use Rattle.calls.specs.declared.call.Call.TheVariants.{Step as Stepping};
 use crate::answer::Answer;
 use crate::call::{Call, Cells};
 use elements::{Handle, Value};
+use hub::enough;
 use machine::Started;
 use pickers::Picker;
 use reports::Report;
@@ -54,7 +55,7 @@ fn code_at(
     cells: Cells,
 ) -> Result<u32, Refusal>
     requires { Enough values.now handles.now }
-    ensures { result ≡ element_question (seen_run run.now.memory values.now handles.now).hub number place (enough cells) }
+    ensures { result ≡ element_question (seen_run run.now.memory values.now handles.now).hub number place (enough_handed cells) }
 {
     let some = cells.within(values, handles);
     run.element(
@@ -119,7 +120,7 @@ fn carry_all<P: Picker>(
 fn may_begin(values: &[Value], handles: &[Handle], room: usize, calls: &[Call]) -> bool
     ensures { result ≡ may_begin values.now handles.now room calls.now }
 {
-    values.len() >= 512 && handles.len() >= 128 && calls.len() <= room
+    enough(values, handles) && calls.len() <= room
 }
 
 // Carries out the calls in order, each handed no more cells than it says, and notes the answers behind those that were noted

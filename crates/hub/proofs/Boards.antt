@@ -21,7 +21,7 @@ use Rattle.rings.proofs.Apart.{stays_apart}
 use Rattle.linking.specs.declared.declared.Declared.{Declared}
 use Rattle.linking.specs.Sound.{cells_for}
 use Rattle.runs.specs.Runs.{channel, no_channel, queued}
-use Rattle.runs.specs.Cases.{some}
+use Rattle.channels.specs.Settled.{some}
 use Rattle.hub.specs.declared.port.Port.{Port}
 use Rattle.routines.specs.declared.item.Item.{Item}
 use Rattle.routines.specs.declared.item.Item.TheVariants.{Value, Handle}

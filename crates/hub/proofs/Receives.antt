@@ -23,7 +23,7 @@ use Rattle.channels.specs.Rules.{offered as carried, offer as carried_by}
 use Rattle.channels.specs.Receives.{got, got_in, after_got, line_got, laid_got}
 use Rattle.routines.specs.declared.item.Item.{Item}
 use Rattle.routines.specs.Items.{as_kind}
-use Rattle.runs.specs.Cases.{some}
+use Rattle.channels.specs.Settled.{some}
 use Rattle.runs.specs.Taking.{Deal, receive_on, offer, offered}
 use Rattle.hub.specs.declared.port.Port.{Port}
 use Rattle.hub.specs.declared.deal.Deal.{Deal as Answer}

@@ -19,7 +19,7 @@ use Rattle.channels.specs.declared.errors.SendError.TheVariants.{Closed, Full}
 use Rattle.channels.specs.Rules.{sent, sent_to, after_sent, line_sent, laid_sent}
 use Rattle.routines.specs.declared.item.Item.{Item}
 use Rattle.routines.specs.Items.{as_kind}
-use Rattle.runs.specs.Cases.{some}
+use Rattle.channels.specs.Settled.{some}
 use Rattle.runs.specs.Taking.{Deal, send_on}
 use Rattle.hub.specs.declared.port.Port.{Port}
 use Rattle.hub.specs.declared.deal.Deal.{Deal as Answer}

@@ -5,7 +5,6 @@ use Rattle.elements.specs.declared.value.Value.{Value as Number}
 use Rattle.elements.specs.declared.handle.Handle.{Handle as Holder}
 use Rattle.rings.specs.Layouts.{Layout, fresh, next_cell, one_more, one_less}
 use Rattle.waiting.specs.declared.wish.Wish.{Wish}
-use Rattle.waiting.specs.declared.wish.Wish.TheVariants.{Send, Receive}
 use Rattle.waiting.specs.declared.wish.Side.TheVariants.{Receivers, Senders}
 use Rattle.waiting.specs.Queues.{Row, queue, written}
 use Rattle.waiting.specs.declared.wish.Entry.{Entry}
@@ -15,7 +14,7 @@ use Rattle.routines.specs.declared.item.Item.{Item}
 use Rattle.routines.specs.declared.item.Item.TheVariants.{Value, Handle}
 use Rattle.words.specs.declared.refusal.Refusal.{Refusal}
 use Rattle.runs.specs.declared.answer.ChannelAnswer.{ChannelAnswer}
-use Rattle.runs.specs.Cases.{can_go}
+use Rattle.runs.specs.Cases.{can_go, channel_of}
 use Rattle.runs.specs.Questions.{if_there}
 use Rattle.runs.specs.Taking.{Deal, take}
 use Rattle.hub.specs.declared.port.Port.{Port}
@@ -64,10 +63,6 @@ handles_after ps d None hs = hs
 handles_after ps d (Some s) hs = handle_written (cell_of (drawn_from d ps) s.0) s.1 hs
 
 -- ---- a case is taken, where it can go
-abbrev pub channel_of : Wish Item → ℕ
-channel_of (Send c e) = c
-channel_of (Receive c) = c
-
 -- there are cells enough, there is such a channel, and the case can go
 abbrev pub may_take : Board → List Number → List Holder → Wish Item → Bool
 may_take b vs hs w = enough vs hs && (nat_lt (channel_of w) (length b.ports) && can_go (seen b vs hs) (Some w))

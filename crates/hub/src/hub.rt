@@ -7,7 +7,8 @@ ghost use Rattle.elements.specs.declared.handle.Handle.{Handle as Holder};
 ghost use Rattle.waiting.specs.Queues.{queue, Orderly};
 ghost use Rattle.waiting.specs.Laws.{may_join};
 ghost use Rattle.runs.specs.Runs.{channel, joins};
-ghost use Rattle.runs.specs.Cases.{can_go, some};
+ghost use Rattle.runs.specs.Cases.{can_go};
+ghost use Rattle.channels.specs.Settled.{some};
 ghost use Rattle.hub.specs.Boards.{Placed, Enough, seen, has_room as room, has_some as element};
 ghost use Rattle.hub.specs.Deals.{port, board_joined};
 

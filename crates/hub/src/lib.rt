@@ -14,3 +14,4 @@ mod taking;
 pub use deal::Deal;
 pub use hub::Hub;
 pub use port::Port;
+pub use taking::enough;

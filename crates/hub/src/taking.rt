@@ -11,7 +11,7 @@ use routines::Item;
 use waiting::Wish;
 
 // Whether both kinds have all cells that a script can need.
-pub(crate) fn enough(values: &[Value], handles: &[Handle]) -> bool
+pub fn enough(values: &[Value], handles: &[Handle]) -> bool
     ensures { result ≡ has_enough values.now handles.now }
 {
     enough_cells(values) && enough_cells(handles)

@@ -1,7 +1,6 @@
 -- The memory of a run at its start.
-use Rattle.std.proofs.Common.{◌≡◌, ℕ, suc, ◌+◌, ◌≤◌, true, List, [], ◌∷◌, length, sum_by, refl, sym, ap, ◌∙◌, subst}
+use Rattle.std.proofs.Common.{◌≡◌, ℕ, suc, ◌+◌, true, List, [], ◌∷◌, length, sum_by, refl, sym, ap, ◌∙◌, subst}
 use Rattle.std.specs.Bool.{if◌then◌else◌}
-use Rattle.std.proofs.lemmas.Bool.{and_from, le-leb}
 use Rattle.std.proofs.lemmas.List.Sums.{sum_by-cons}
 use Rattle.lines.specs.declared.line.Kind.{Kind}
 use Rattle.lines.specs.declared.line.Kind.TheVariants.{Value as ValueKind, Handle as HandleKind}
@@ -32,9 +31,6 @@ cells_laid k c v h (d ∷ ds) =
     sum_by-cons (λ p. cells_for k (declared p)) (new_port c v h d) rest
     ∙ ap (λ n. cells_for k d + n) (cells_laid k (c + 1) (v + cells_for ValueKind d) (h + cells_for HandleKind d) ds)
     ∙ sym (sum_by-cons (cells_for k) d ds)
-
-pub are_enough : (vs : List Value) (hs : List Handle) → 512 ≤ length vs → 128 ≤ length hs → enough vs hs ≡ true
-are_enough vs hs v h = and_from _ _ (le-leb 512 (length vs) v) (le-leb 128 (length hs) h)
 
 module _ (p : Program) (new : Parts Board) (memory : new ≡ first_memory p) where
   pub begins_in_order : Orderly (length new.routines) new.turns new.hub.line

@@ -15,7 +15,7 @@ use Rattle.routines.specs.declared.routine.Release.{Release}
 use Rattle.routines.specs.declared.routine.Routine.{Routine}
 use Rattle.waiting.specs.declared.wish.Wish.{Wish}
 use Rattle.runs.specs.Runs.{Hub, Parts}
-use Rattle.runs.specs.Cases.{Branch, branch, can_go, wish_of}
+use Rattle.runs.specs.Cases.{Branch, branch, can_go, channel_of, wish_of}
 use Rattle.runs.specs.Orderly.{Orderly}
 use Rattle.runs.specs.Taking.{Deal, take}
 use Rattle.runs.specs.Steps.{branch_at, passing, taken_by, taking}
@@ -23,7 +23,7 @@ use Rattle.run_laws.proofs.Counts.{times, counted}
 use Rattle.run_laws.proofs.Orderly.{released_waits, room_for_turn}
 use Rattle.hub.specs.declared.deal.Deal.{Deal as Answer}
 use Rattle.hub.specs.Boards.{Board, seen, Enough}
-use Rattle.hub.specs.Deals.{channel_of, may_take, dealt, answer, board_after, values_after, handles_after}
+use Rattle.hub.specs.Deals.{may_take, dealt, answer, board_after, values_after, handles_after}
 use Rattle.machine.specs.Memory.{Made, seen_run, settled, settled_report}
 use Rattle.machine.proofs.Makes.{take_stays, taken_made}
 use Rattle.machine.proofs.Sets.{branch_here}

@@ -4,9 +4,8 @@ ghost use Rattle.std.specs.List.{All};
 ghost use Rattle.elements.specs.declared.value.Value.{Value as Number};
 ghost use Rattle.elements.specs.declared.handle.Handle.{Handle as Holder};
 ghost use Rattle.lines.specs.declared.line.Operand.TheVariants.{Held};
-ghost use Rattle.runs.specs.Cases.{branch, channel_for, wish_of, wishes_of, ready_set, default_from};
+ghost use Rattle.runs.specs.Cases.{channel_of, branch, channel_for, wish_of, wishes_of, ready_set, default_from};
 ghost use Rattle.hub.specs.Boards.{seen, Enough};
-ghost use Rattle.hub.specs.Deals.{channel_of};
 ghost use Rattle.machine.specs.Needs.{LowOperand, Low};
 
 use hub::Hub;

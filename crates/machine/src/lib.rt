@@ -1,4 +1,4 @@
-// A started script, run turn by turn: every turn is a step, and answers a report.
+// A started script: its steps, each with a report, and the questions about it.
 #![tactic(auto)]
 
 mod acts;

@@ -1,7 +1,6 @@
 // A run, as memory keeps it, and what changes it apart from the channels.
-ghost use Rattle.std.specs.Prelude.{◌≡◌, ◌<◌, ◌≤◌, ◌∷◌, ◌++◌, [], drop, length};
-ghost use Rattle.routines.specs.Registers.{in_state};
-ghost use Rattle.runs.specs.Runs.{goes_on, release, release_all, stopped, with_routine, living};
+ghost use Rattle.std.specs.Prelude.{◌≡◌, ◌<◌, ◌≤◌, length};
+ghost use Rattle.runs.specs.Runs.{goes_on, release, stopped, living};
 ghost use Rattle.runs.specs.Steps.{with_born, ended};
 ghost use Rattle.machine.specs.Memory.{Front};
 
@@ -78,12 +77,7 @@ impl Memory {
         ensures { self.new ≡ with_born body x self.old }
     {
         self.turns.push_back_reserved(self.routines.len() as u8);
-        self.routines.push_reserved(Routine {
-            body,
-            line: 0,
-            state: State::Ready,
-            ..x
-        });
+        self.routines.push_reserved(x.born(body));
     }
 
     // The routine whose turn it is has ended.

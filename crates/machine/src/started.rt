@@ -11,6 +11,7 @@ ghost use Rattle.machine.specs.Placing.{placed_prop};
 
 use crate::memory::Memory;
 use elements::{Handle, Value};
+use hub::enough;
 use linking::Linked;
 use pickers::Picker;
 use reports::Report;
@@ -43,7 +44,7 @@ impl Started {
         ensures stepped { Stepped (refused (seen_run self.old.memory values.old handles.old) values.old handles.old) (step self.old.linked.program (seen_run self.old.memory values.old handles.old) (P.meaning picker.old)) (P.meaning picker.old) self.old.memory values.old handles.old result (P.meaning picker.new) self.new.memory values.new handles.new }
         ensures script { self.new.linked ≡ self.old.linked }
     {
-        if values.len() < 512 || handles.len() < 128 {
+        if !enough(values, handles) {
             return Err(Refusal::Small);
         }
         if self.memory.is_over() {

@@ -5,7 +5,7 @@ ghost use Rattle.machine.specs.Starts.{first_memory, Starts};
 use crate::memory::Memory;
 use crate::started::Started;
 use elements::{Handle, Value};
-use hub::Hub;
+use hub::{Hub, enough};
 use linking::Linked;
 use routines::Routine;
 use std::alloc::{AllocError, Global};
@@ -58,7 +58,7 @@ pub fn start(
 ) -> Result<Started, Unstarted>
     ensures { Starts linked values.old handles.old result values.new handles.new }
 {
-    if values.len() < 512 || handles.len() < 128 {
+    if !enough(values, handles) {
         let error = StartError::Refused(Refusal::Small);
         return Err(Unstarted { linked, error });
     }

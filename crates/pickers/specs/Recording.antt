@@ -78,7 +78,7 @@ pub record Replayed (ps : List Pick) (qs : List Query) (os : List (Option ℕ)) 
 abbrev pub Replays : Type 0
 Replays = (m : Meaning) → Lawful m → (qs : List Query) → Replayed (picks_of qs (answers m qs)) qs (answers m qs)
 
--- They lead to the same choices too, at every list of queries: then the picks are made where the picker was asked.
+-- Where they are steady they lead to the same choices too: then the picks are made where the picker was asked.
 abbrev pub ReplaysChoices : Type 0
 ReplaysChoices = (m : Meaning) → Lawful m → (qs : List Query)
     → steady (consulted qs) (answers m (consulted qs)) ≡ true

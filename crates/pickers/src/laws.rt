@@ -2,7 +2,8 @@
 ghost use Rattle.pickers.specs.Examples.{Examples};
 ghost use Rattle.pickers.specs.Recording.{Replays, ReplaysChoices, TurningDecides};
 
-// A schedule made of the answers of a picker, of any meaning, gives the same answers and leads to the same choices.
+// A schedule made of the answers of a picker, of any meaning, gives again those that named a case; where they are steady it
+// gives all of them, and leads to the same choices.
 // A turning picker names a case wherever one is ready, so that all its answers are played again.
 pub fn replays_stand()
     ensures answers { Replays }

@@ -7,7 +7,7 @@ use crate::item::Item;
 use elements::{Element, Handle, Value};
 use std::fmt;
 
-// How a routine passes by a case that it was released with. Channels go by their number. Not a report's `Pass`: that has
+// How a routine passes by a case, in its own turn or when it was released. Channels go by their number. Not a report's `Pass`: that has
 // the code of an element, and a default, by which nobody is released.
 #[derive(Clone, Copy)]
 pub enum Passed {
@@ -15,7 +15,7 @@ pub enum Passed {
     Received(u8, Item),
     // a closed, empty channel
     Drained(u8),
-    // released from a send by a close
+    // a send that a closed channel breaks: taken there, or released from by a close
     Broken,
 }
 

@@ -16,7 +16,8 @@ use Rattle.routines.specs.declared.routine.Passed.{Passed}
 use Rattle.routines.specs.declared.routine.Passed.TheVariants.{Sent, Received, Drained, Broken}
 use Rattle.routines.specs.Items.{as_kind, code_of}
 use Rattle.runs.specs.Runs.{Channel, Hub, Run, no_channel, channel, routine, queued, text_line, with_buffer, new_channel, started}
-use Rattle.runs.specs.Cases.{Branch, some, can_go, wish_of}
+use Rattle.runs.specs.Cases.{Branch, can_go, wish_of}
+use Rattle.channels.specs.Settled.{some}
 use Rattle.runs.specs.Taking.{Deal, take, send_on, receive_on, offered, dismissals, closed_at}
 use Rattle.runs.specs.Steps.{Step, Taken, taken_by, nothing_moved, either, accepted_of, received_of, move, passing, branch_at, branches, ending, step}
 use Rattle.run_laws.specs.Settled.{channel_in, SettledHub}

@@ -16,7 +16,8 @@ use Rattle.channels.proofs.Settled.{closing_frees_all}
 use Rattle.routines.specs.declared.item.Item.{Item}
 use Rattle.routines.specs.Items.{as_kind}
 use Rattle.runs.specs.Runs.{Channel, Hub, no_channel, channel, queued, joins}
-use Rattle.runs.specs.Cases.{some, can_go}
+use Rattle.runs.specs.Cases.{can_go}
+use Rattle.channels.specs.Settled.{some}
 use Rattle.runs.specs.Taking.{Deal, take, send_on, receive_on, offered, leaving, closed_at}
 use Rattle.run_laws.specs.Settled.{case_in, case_at, lets, channel_in, goes_alone, meet, serve, SettledHub}
 use Rattle.run_laws.proofs.Counts.{times-without, waits_times, times_waits}

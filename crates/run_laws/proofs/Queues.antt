@@ -10,7 +10,7 @@ use Rattle.waiting.specs.declared.wish.Side.TheVariants.{Receivers, Senders}
 use Rattle.waiting.specs.declared.wish.Entry.{Entry}
 use Rattle.waiting.specs.Queues.{Row, places, cases, queue, first, stands, waits}
 use Rattle.routines.specs.declared.item.Item.{Item}
-use Rattle.runs.specs.Cases.{some}
+use Rattle.channels.specs.Settled.{some}
 use Rattle.run_laws.specs.Settled.{case_in, meet, serve}
 use Rattle.run_laws.proofs.Counts.{times, times-own, times_waits}
 use Rattle.run_laws.proofs.Orderly.{all_append, all_first}

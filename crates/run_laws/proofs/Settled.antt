@@ -22,7 +22,6 @@ use Rattle.routines.specs.Items.{as_kind}
 use Rattle.runs.specs.Runs.{Hub, Run, nobody, routine, channel, queued, text_line, joins, release, stopped, goes_on, new_channel, first_routine}
 use Rattle.runs.specs.Cases.{Branch, can_go, wish_of, wishes_of}
 use Rattle.runs.specs.Taking.{Deal, take, send_on, receive_on, leaving, dismissals, closed_at}
-use Rattle.routines.specs.Registers.{born}
 use Rattle.runs.specs.Steps.{Taken, taken_by, nothing_moved, released_run, passing, branch_at, branches, waiting, with_born, ended, ending, step}
 use Rattle.run_laws.specs.Settled.{is_waiting, has_turn, case_in, channel_in, Linked, SettledHub, Settled, BeginsSettled, StaysSettled, StaysLawful}
 use Rattle.run_laws.proofs.Ways.{Ways, by_ways, lawful_after}

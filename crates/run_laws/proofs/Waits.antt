@@ -23,7 +23,8 @@ use Rattle.routines.specs.declared.routine.State.{State}
 use Rattle.routines.specs.declared.routine.State.TheVariants.{Ready, Waiting, Released, Ended}
 use Rattle.linking.specs.Programs.{no_block}
 use Rattle.runs.specs.Runs.{Run, channel, routine, queued, lives, block_of, operation_at, text_line}
-use Rattle.runs.specs.Cases.{Branch, some, branch, wish_of}
+use Rattle.runs.specs.Cases.{Branch, branch, wish_of}
+use Rattle.channels.specs.Settled.{some}
 use Rattle.runs.specs.Taking.{take as deal_of}
 use Rattle.runs.specs.Steps.{Taken, taken_by, nothing_moved, passing, branch_at, branches, branches_at, after_line, ending, step}
 use Rattle.run_laws.specs.Settled.{is_waiting, has_turn, case_in, case_at, goes_alone, serve, Settled}

@@ -10,7 +10,8 @@ use Rattle.routines.specs.declared.routine.State.{State}
 use Rattle.routines.specs.declared.routine.State.TheVariants.{Ready, Waiting, Released, Ended}
 use Rattle.routines.specs.declared.routine.Routine.{Routine}
 use Rattle.runs.specs.Runs.{Channel, Hub, Run, no_channel, nobody, channel, started}
-use Rattle.runs.specs.Cases.{some, wishes_of}
+use Rattle.runs.specs.Cases.{channel_of, wishes_of}
+use Rattle.channels.specs.Settled.{some}
 use Rattle.runs.specs.Steps.{branches, step}
 use Rattle.runs.specs.Orderly.{OrderlyRun}
 
@@ -42,10 +43,6 @@ lets c (wish.Receive d) = c.closed || some c.buffer
 
 abbrev pub channel_in : List Channel → ℕ → Channel
 channel_in cs c = slice_index_or cs c no_channel
-
-abbrev pub channel_of : Wish Item → ℕ
-channel_of (wish.Send c e) = c
-channel_of (wish.Receive c) = c
 
 abbrev pub goes_alone : List Channel → Option (Wish Item) → Bool
 goes_alone cs None = false

@@ -10,9 +10,10 @@ use Rattle.reports.specs.declared.report.Event.TheVariants.{Turn, Stall}
 use Rattle.routines.specs.declared.item.Item.{Item}
 use Rattle.routines.specs.declared.routine.State.TheVariants.{Waiting}
 use Rattle.runs.specs.Runs.{Run, channel, routine, queued, lives}
-use Rattle.runs.specs.Cases.{some, wish_of}
+use Rattle.runs.specs.Cases.{channel_of, wish_of}
+use Rattle.channels.specs.Settled.{some}
 use Rattle.runs.specs.Steps.{branch_at, branches, step}
-use Rattle.run_laws.specs.Settled.{lets, channel_of, serve, Settled, FewCases}
+use Rattle.run_laws.specs.Settled.{lets, serve, Settled, FewCases}
 
 -- what case k of the line of routine r waits for
 abbrev pub wish_at : Program → Run → ℕ → ℕ → Option (Wish Item)

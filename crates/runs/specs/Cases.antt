@@ -11,6 +11,7 @@ use Rattle.linking.specs.declared.operation.Operation.{Operation}
 use Rattle.linking.specs.declared.operation.Operation.TheVariants.{Alone, Select, Case, Default}
 use Rattle.linking.specs.declared.operation.Exchange.{Exchange}
 use Rattle.linking.specs.declared.operation.Exchange.TheVariants.{Send, Receive, SendHandle, ReceiveHandle}
+use Rattle.channels.specs.Settled.{some}
 use Rattle.waiting.specs.declared.wish.Wish.{Wish}
 use Rattle.waiting.specs.declared.wish.Wish.TheVariants as wish
 use Rattle.waiting.specs.declared.wish.Side.TheVariants.{Receivers, Senders}
@@ -69,9 +70,9 @@ wishes_of cs x bs = map (λ b. wish_of cs x b.exchange) bs
 
 -- ---- when a case can go: its channel is closed, or has room or an element, or another routine waits on the other side.
 -- The routine whose turn it is does not wait, so whoever waits is another.
-abbrev pub some : {A : Type 0} → List A → Bool
-some [] = false
-some (x ∷ xs) = true
+abbrev pub channel_of : Wish Item → ℕ
+channel_of (wish.Send c e) = c
+channel_of (wish.Receive c) = c
 
 abbrev pub can_go : Hub → Option (Wish Item) → Bool
 can_go h None = false

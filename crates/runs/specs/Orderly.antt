@@ -1,5 +1,5 @@
 -- What holds of every run from its start on: who waits and who has a turn.
-use Rattle.std.specs.Prelude.{◌≡◌, ℕ, ◌+◌, ◌<◌, ◌≤◌, List, ◌++◌, length, ◌==◌}
+use Rattle.std.specs.Prelude.{ℕ, ◌+◌, ◌<◌, ◌≤◌, List, ◌++◌, length, ◌==◌}
 use Rattle.std.specs.List.{All, IsDistinct}
 use Rattle.runs.specs.Runs.{Run}
 

@@ -40,13 +40,13 @@ channel_told h c = record {
 abbrev pub channel_question : Hub → ℕ → Result ChannelAnswer Refusal
 channel_question h c = if_there (nat_lt c (length h.channels)) (channel_told h c)
 
--- the code of the element at place i of the buffer, 0 the oldest; too few cells first
 abbrev pub no_item : Item
 no_item = Value value_zero
 
 abbrev pub code_told : Hub → ℕ → ℕ → ℕ
 code_told h c i = code_of (slice_index_or (channel h c).buffer i no_item)
 
+-- the code of the element at place i of the buffer, 0 the oldest; too few cells come first
 abbrev pub element_question : Hub → ℕ → ℕ → Bool → Result ℕ Refusal
 element_question h c i false = Err Small
 element_question h c i true = if_there (nat_lt i (length (channel h c).buffer)) (code_told h c i)
