@@ -14,7 +14,7 @@ use Rattle.channels.specs.Settled.{some}
 use Rattle.waiting.specs.declared.wish.Side.TheVariants.{Receivers, Senders}
 use Rattle.runs.specs.declared.answer.ChannelAnswer.{ChannelAnswer}
 use Rattle.runs.specs.Runs.{Channel, Run, channel, queued}
-use Rattle.runs.specs.Questions.{if_there, routine_told, routine_question, channel_told, channel_question, no_item, code_told, element_question}
+use Rattle.runs.specs.Questions.{step_refused, if_there, routine_told, routine_question, channel_told, channel_question, no_item, code_told, element_question}
 use Rattle.runs.specs.Steps.{step}
 use Rattle.run_laws.specs.Elements.{held, codes_on, accepted_on, received_on}
 use Rattle.run_laws.specs.Moves.{due_in, due, moves, passed_by, all_moves, all_passed}
@@ -43,7 +43,7 @@ said_told : {A : Type 0} (p : Program) (at : Played) (f : A → Answer) (r : Res
 said_told p at f (Ok a) h = silent (f a) (h a)
 said_told p at f (Err why) h = silent (answer.Refused why) refl
 
-said_step : (p : Program) (at : Played) (b over : Bool) → Said p at (stepping p at b over)
+said_step : (p : Program) (at : Played) (b over : Bool) → Said p at (stepping p at (step_refused b over))
 said_step p at false over = silent (answer.Refused Small) refl
 said_step p at true true = silent (answer.Refused Over) refl
 said_step p at true false = stepped
@@ -135,7 +135,7 @@ module _ (run : Run) where
 stall_is : (p : Program) (at : Played) → Settled p at.run → (cells : Cells) (t : Report) → (answered p at (call.Step cells)).answer ≡ answer.Report t → (a_stall t.event ≡ true) ↔ AllWait at.run
 stall_is p at s cells t = go (enough cells) at.run.over
   where
-    go : (b over : Bool) → (stepping p at b over).answer ≡ answer.Report t → (a_stall t.event ≡ true) ↔ AllWait at.run
+    go : (b over : Bool) → (stepping p at (step_refused b over)).answer ≡ answer.Report t → (a_stall t.event ≡ true) ↔ AllWait at.run
     go false over e = cc
     go true true e = cc
     go true false e =

@@ -1,5 +1,6 @@
 -- Each element that is buffered is written in the cell that its number on its channel says.
-use Rattle.std.proofs.Common.{◌≡◌, ℕ, zero, suc, ◌+◌, ◌-◌, ◌<◌, ◌≤◌, Bool, true, false, cond, ◌&&◌, not, eqb, List, [], ◌∷◌, ◌++◌, map, length, get_or, take, Some, None, Option, Ok, Err, Result, IfSome, sym, refl, ap, ◌∙◌, subst, arith, inl, inr, append-nil, length-append}
+use Rattle.std.specs.Option.{is_none}
+use Rattle.std.proofs.Common.{◌≡◌, ℕ, zero, suc, ◌+◌, ◌-◌, ◌<◌, ◌≤◌, Bool, true, false, cond, eqb, List, [], ◌∷◌, ◌++◌, map, length, get_or, take, Some, None, Option, Ok, Err, Result, IfSome, sym, refl, ap, ◌∙◌, subst, arith, inl, inr, append-nil, length-append}
 use Rattle.std.proofs.Math.ListN.{get_or-map}
 use Rattle.std.proofs.lemmas.List.{length-map, length-set, get_or-set_same, get_or-set_other}
 use Rattle.std.proofs.lemmas.List.Sums.{sum_by-cons, sum_by_push}
@@ -27,7 +28,7 @@ use Rattle.routines.specs.Items.{as_kind}
 use Rattle.runs.specs.Runs.{Channel, Hub, Run, no_channel, channel, routine, queued, text_line, with_buffer, leaves, new_channel, started}
 use Rattle.runs.specs.Cases.{Branch, can_go, wish_of}
 use Rattle.channels.specs.Settled.{some}
-use Rattle.runs.specs.Questions.{routine_question, channel_question, element_question}
+use Rattle.runs.specs.Questions.{step_refused, routine_question, channel_question, element_question}
 use Rattle.runs.specs.Taking.{take as take_case, send_on, receive_on, offered, dismissals, closed_at}
 use Rattle.runs.specs.Steps.{Step, Taken, taken_by, nothing_moved, passing, branch_at, branches, ending, step}
 use Rattle.run_laws.specs.Orderly.{kinds}
@@ -379,8 +380,8 @@ module _ (p : Program) (few : FewCases p) where
           handles = r.handles ∙ handles_next p.channels before later s.drawn ps s.stored k.handles cell;
         }
 
-    call_filled : (b over : Bool) → Fine p (stepping p at b over).after
-        → let s = step p at.run at.meaning in let go = b && not over in let next = (stepping p at b over).after in
+    call_filled : (b over : Bool) → Fine p (stepping p at (step_refused b over)).after
+        → let s = step p at.run at.meaning in let go = is_none (step_refused b over) in let next = (stepping p at (step_refused b over)).after in
         Filled p.channels before (cond go (if_any s.stored) [] ++ all_buffered p next cs) k (kept_after p next cs (cond go (stepped s k) k))
     call_filled false over g = rest at f before k t
     call_filled true true g = rest at f before k t

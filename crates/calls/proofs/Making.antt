@@ -1,6 +1,7 @@
 -- A call that is handed some of the cells, as a call of the run that all of them stand for.
+use Rattle.std.specs.Option.{is_none}
 use Rattle.std.proofs.Common.{◌≡◌, ℕ, ◌+◌, ◌<◌, ◌≤◌, min, Bool, true, false, leb, List, [], ◌∷◌, ◌++◌, map, length, take, drop, Some, None, Option, Result, IfSome, sym, refl, ap, ap₂, ◌∙◌, subst, inl, inr, arith}
-use Rattle.std.specs.Prelude.{cond, ◌&&◌, not}
+use Rattle.std.specs.Prelude.{cond, ◌&&◌}
 use Rattle.std.specs.List.{between}
 use Rattle.std.proofs.Math.Nat.{zero-mod}
 use Rattle.std.proofs.lemmas.Nat.{mod_below}
@@ -34,7 +35,7 @@ use Rattle.runs.specs.Runs.{Parts, Run, Hub, Channel, channel, routine, queued, 
 use Rattle.runs.specs.Cases.{Branch, wish_of}
 use Rattle.runs.specs.Taking.{take as take_case, send_on, receive_on, offer}
 use Rattle.runs.specs.Steps.{Step, Taken, taken_by, nothing_moved, passing, branch_at, branches, ending, step}
-use Rattle.runs.specs.Questions.{element_question}
+use Rattle.runs.specs.Questions.{step_refused, element_question}
 use Rattle.run_laws.proofs.Ways.{by_ways}
 use Rattle.hub.specs.declared.port.Port.{Port}
 use Rattle.hub.specs.Boards.{Board, Enough, Placed, buffered, cells_of, declared, enough as has_cells, seen, seen_port}
@@ -256,7 +257,7 @@ module _ (m m' : Meaning) (old new : Parts Board) (a : Result Report Refusal) (v
 
   module _ (p : Program) (k : Placed 0 0 0 old.hub.ports) (k' : Placed 0 0 0 new.hub.ports) where
     abbrev MadeIf : Bool → Bool → Type 0
-    MadeIf b over = let r = stepping p (played before m) b over in Became r.answer (cond (b && not over) (stepped (step p (kept_run before) m) before) before) r.after
+    MadeIf b over = let r = stepping p (played before m) (step_refused b over) in Became r.answer (cond (is_none (step_refused b over)) (stepped (step p (kept_run before) m) before) before) r.after
 
     made_if : (b over : Bool) → has_cells vs hs ≡ b
         → Stepped (cond b (cond over (Some Over) None) (Some Small)) (step p (seen_run old vs hs) m) m old vs hs a m' new vs' hs' → MadeIf b over

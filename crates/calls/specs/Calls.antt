@@ -1,11 +1,10 @@
 -- What each call answers, and a list of calls.
-use Rattle.std.specs.Prelude.{Bool, true, false, List, [], ◌∷◌, Ok, Err, Result}
+use Rattle.std.specs.Prelude.{Bool, List, Some, None, Option, [], ◌∷◌, Ok, Err, Result}
 use Rattle.words.specs.declared.refusal.Refusal.{Refusal}
-use Rattle.words.specs.declared.refusal.Refusal.TheVariants.{Small, Over}
 use Rattle.linking.specs.Programs.{Program}
 use Rattle.pickers.specs.Meaning.{Meaning}
 use Rattle.runs.specs.Runs.{Run, started}
-use Rattle.runs.specs.Questions.{routine_question, channel_question, element_question}
+use Rattle.runs.specs.Questions.{step_refused, routine_question, channel_question, element_question}
 use Rattle.runs.specs.Steps.{Step, step}
 use Rattle.hub.specs.Boards.{enough_of}
 use Rattle.calls.specs.declared.call.Cells.{Cells}
@@ -43,14 +42,12 @@ tells f r at = record { answer = told f r; after = at }
 abbrev pub granted : Step → Answered
 granted t = record { answer = answer.Report t.report; after = record { run = t.run; meaning = t.meaning } }
 
--- too few cells are refused first, and then a step of a run that is over
-abbrev pub stepping : Program → Played → Bool → Bool → Answered
-stepping p at false over = tells answer.Report (Err Small) at
-stepping p at true true = tells answer.Report (Err Over) at
-stepping p at true false = granted (step p at.run at.meaning)
+abbrev pub stepping : Program → Played → Option Refusal → Answered
+stepping p at (Some why) = tells answer.Report (Err why) at
+stepping p at None = granted (step p at.run at.meaning)
 
 abbrev pub answered : Program → Played → Call → Answered
-answered p at (call.Step cells) = stepping p at (enough cells) at.run.over
+answered p at (call.Step cells) = stepping p at (step_refused (enough cells) at.run.over)
 answered p at (call.Routine r) = tells answer.Routine (routine_question p at.run r) at
 answered p at (call.Channel c) = tells answer.Channel (channel_question at.run.hub c) at
 answered p at (call.Element c i cells) = tells answer.Element (element_question at.run.hub c i (enough cells)) at

@@ -1,5 +1,6 @@
 -- What carrying out calls answers and leaves: of memory, of what the picker means, and of every cell.
-use Rattle.std.specs.Prelude.{◌≡◌, ℕ, Bool, cond, ◌&&◌, not, List, [], ◌∷◌, ◌++◌, length, nat_le, Ok, Err, Result}
+use Rattle.std.specs.Prelude.{◌≡◌, ℕ, Bool, cond, ◌&&◌, List, [], ◌∷◌, ◌++◌, length, nat_le, Ok, Err, Result}
+use Rattle.std.specs.Option.{is_none}
 use Rattle.words.specs.declared.refusal.Refusal.{Refusal}
 use Rattle.words.specs.declared.refusal.Refusal.TheVariants.{Small}
 use Rattle.elements.specs.declared.value.Value.{Value}
@@ -7,6 +8,7 @@ use Rattle.elements.specs.declared.handle.Handle.{Handle}
 use Rattle.linking.specs.Programs.{Program}
 use Rattle.pickers.specs.Meaning.{Meaning, Lawful}
 use Rattle.runs.specs.Runs.{Parts, Run}
+use Rattle.runs.specs.Questions.{step_refused}
 use Rattle.runs.specs.Steps.{Step, step}
 use Rattle.hub.specs.Boards.{Board, enough as has_cells}
 use Rattle.hub.specs.Deals.{values_after, handles_after}
@@ -41,7 +43,7 @@ stepped s k = record {
 
 -- only a step that is granted changes anything
 abbrev pub is_granted : Cells → Played → Bool
-is_granted cells at = enough cells && not at.run.over
+is_granted cells at = is_none (step_refused (enough cells) at.run.over)
 
 abbrev pub kept_by : Program → Played → Call → Kept → Kept
 kept_by p at (Stepping cells) k = cond (is_granted cells at) (stepped (step p at.run at.meaning) k) k

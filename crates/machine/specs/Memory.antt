@@ -1,10 +1,9 @@
 -- A run as memory keeps it, and what a step leaves there.
-use Rattle.std.specs.Prelude.{◌≡◌, ℕ, ◌<◌, ◌≤◌, Bool, List, [], ◌∷◌, length, map, drop, Some, None, Option, slice_set, cond, Ok, Err, Result}
+use Rattle.std.specs.Prelude.{◌≡◌, ℕ, ◌<◌, ◌≤◌, Bool, List, [], ◌∷◌, length, map, drop, Some, None, Option, slice_set, Ok, Err, Result}
 use Rattle.elements.specs.declared.value.Value.{Value}
 use Rattle.elements.specs.declared.handle.Handle.{Handle}
 use Rattle.pickers.specs.Meaning.{Meaning}
 use Rattle.words.specs.declared.refusal.Refusal.{Refusal}
-use Rattle.words.specs.declared.refusal.Refusal.TheVariants.{Small, Over}
 use Rattle.reports.specs.declared.report.Deed.{Deed}
 use Rattle.reports.specs.declared.report.Deed.TheVariants.{Panics, Passes, Waits}
 use Rattle.reports.specs.declared.report.Pass.TheVariants as pass
@@ -25,6 +24,7 @@ use Rattle.reports.specs.declared.report.Report.{Report}
 use Rattle.runs.specs.Runs.{Parts, Run, Channel, routine, goes_on, release_all, stopped}
 use Rattle.runs.specs.Taking.{dismissed}
 use Rattle.runs.specs.Cases.{Branch}
+use Rattle.runs.specs.Questions.{step_refused}
 use Rattle.runs.specs.Steps.{Step, shown, written_by, released_run, accepted_of, received_of, either}
 use Rattle.hub.specs.declared.port.Port.{Port}
 use Rattle.hub.specs.Boards.{Board, seen, enough}
@@ -117,9 +117,9 @@ abbrev pub released_with : State → Option (ℕ × Passed)
 released_with (Released k q) = Some (k, q)
 released_with _ = None
 
--- ---- the call of a step: too few cells come first, then that the run is over
+-- ---- the call of a step
 abbrev pub refused : Run → List Value → List Handle → Option Refusal
-refused run vs hs = cond (enough vs hs) (cond run.over (Some Over) None) (Some Small)
+refused run vs hs = step_refused (enough vs hs) run.over
 
 abbrev pub answered : Option Refusal → Report → Result Report Refusal
 answered None x = Ok x

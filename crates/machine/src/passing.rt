@@ -1,5 +1,5 @@
 // Passing by a case: one that is taken in this turn, or one that the routine was released with.
-ghost use Rattle.std.specs.Prelude.{◌≡◌, ◌<◌, ◌≤◌, length, map, true, IfSome, List};
+ghost use Rattle.std.specs.Prelude.{◌≡◌, ◌<◌, ◌≤◌, length, map, true, IfSome};
 ghost use Rattle.std.specs.List.{All};
 ghost use Rattle.pickers.specs.Meaning.{Meaning};
 ghost use Rattle.routines.specs.Registers.{at_line};

@@ -1,7 +1,7 @@
--- What the questions answer: they are of a run alone, and change nothing.
-use Rattle.std.specs.Prelude.{ℕ, Bool, true, false, cond, length, Ok, Err, Result, nat_lt, slice_index_or}
+-- What the questions answer: they are of a run alone, and change nothing; and when a step is refused.
+use Rattle.std.specs.Prelude.{ℕ, Bool, true, false, cond, length, Some, None, Option, Ok, Err, Result, nat_lt, slice_index_or}
 use Rattle.words.specs.declared.refusal.Refusal.{Refusal}
-use Rattle.words.specs.declared.refusal.Refusal.TheVariants.{Small, Absent}
+use Rattle.words.specs.declared.refusal.Refusal.TheVariants.{Small, Over, Absent}
 use Rattle.elements.specs.Codes.{value_zero}
 use Rattle.linking.specs.Programs.{Program}
 use Rattle.waiting.specs.declared.wish.Side.TheVariants.{Receivers, Senders}
@@ -11,6 +11,10 @@ use Rattle.routines.specs.Items.{code_of}
 use Rattle.runs.specs.declared.answer.RoutineAnswer.{RoutineAnswer}
 use Rattle.runs.specs.declared.answer.ChannelAnswer.{ChannelAnswer}
 use Rattle.runs.specs.Runs.{Parts, Hub, channel, routine, queued, text_line}
+
+-- why a step is refused, if it is: too few cells come first, and then that the run is over
+abbrev pub step_refused : Bool → Bool → Option Refusal
+step_refused enough over = cond enough (cond over (Some Over) None) (Some Small)
 
 -- what is told of something that is there
 abbrev pub if_there : {A : Type 0} → Bool → A → Result A Refusal

@@ -54,7 +54,7 @@ abbrev pub shown : Passed → Pass
 shown (Sent c e) = pass.Sent c (code_of e)
 shown (Received c e) = pass.Received c (code_of e)
 shown (Drained c) = pass.Drained c
-shown Broken = pass.Default -- a broken send is not shown: it panics
+shown Broken = pass.Default  -- a broken send is not shown: it panics
 
 -- what a passed case leaves in the registers
 abbrev pub written_by : Option (Exchange ℕ) → Passed → Routine → Routine
