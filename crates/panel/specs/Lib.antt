@@ -1,2 +1,3 @@
 pub mod Forms
+pub mod Answers
 pub mod Shown
