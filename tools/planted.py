@@ -78,7 +78,7 @@ def bugs(folder):
             for n, line, result in bodies(path):
                 place = os.path.relpath(path, folder)
                 this = re.match(r'( +.* => )(.*)(,)$', line)
-                if this and arm:
+                if this and arm and arm != this.group(2):
                     made['a missed case'].append(('a missed case', place, n, this.group(1) + arm + ','))
                 arm = this.group(2) if this else None
                 if re.match(r' +(let |if |for |while )', line):
