@@ -171,7 +171,9 @@ def plant(copy, crate, each, rows, lock):
 
 
 def cell(text):
-    return '`%s`' % text.replace('|', '\\|') if text else ''
+    "text as code in a table, where bars and backticks have a meaning of their own"
+    marks = '``' if '`' in text else '`'
+    return marks + text.replace('|', '\\|') + marks if text else ''
 
 
 def write(path, listed, rows):
