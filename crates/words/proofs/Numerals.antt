@@ -1,80 +1,74 @@
--- A number, as std's `parse` reads it.
-use Rattle.std.proofs.Common.{◌≡◌, ◌≢◌, ℕ, ◌-◌, ◌+◌, ◌*◌, ◌^◌, ◌<◌, ◌≤◌, Bool, true, false, eqb, List, [], ◌∷◌, length, get_or, ℤ, pos, neg_ℤ, Some, None, Ok, Err, Result, MatchResult, w32, sym, refl, subst, arith, rules}
-use Rattle.std.proofs.lemmas.Bool.{eqb-true, eqb-false, and_parts}
+-- The number of a word's digits.
+use Rattle.std.proofs.Common.{◌≡◌, ℕ, ◌+◌, ◌*◌, ◌-◌, ◌≤◌, true, false, ◌&&◌, cond, nat_le, List, [], ◌∷◌, length, get_or, drop, pos, neg_ℤ, Some, None, Option, Bor, ControlFlow, Continue, Break, sym, ap, subst, ◌∙◌, arith, rules}
+use Rattle.std.specs.ControlFlow.{continue_value}
+use Rattle.std.specs.Fn.{Mut, Called}
+use Rattle.std.specs.Iterator.{AlwaysYields, YieldsThen, TryFoldTurn, TryFoldsItems}
+use Rattle.std.specs.List.{FoldsTo}
+use Rattle.std.specs.Option.{MatchOption}
+use Rattle.std.specs.Str.{all_ascii_digits}
 use Rattle.std.proofs.lemmas.Bool.Decides.{nat_tests}
-use Rattle.std.proofs.lemmas.Str.{IsUtf8-from_ascii}
-use Rattle.std.proofs.lemmas.Str.Ascii.{IsAscii-nil, IsAscii-cons}
-use Rattle.std.proofs.lemmas.Str.Parse.{IsNumeralModel, numerals_by_fold, parse_signed_plain, parse_signed_minus}
-use Rattle.std.specs.Char.{is_ascii_digit}
-use Rattle.std.specs.Result.{OkIff, result_ok}
-use Rattle.std.specs.Str.{all_ascii_digits, IsUtf8, IsAscii}
-use Rattle.std.specs.Str.Parse.{ParsesSigned}
-use Rattle.words.specs.Words.{read_on, loose, number_of}
+use Rattle.std.proofs.lemmas.Iterator.{YieldsList}
+use Rattle.std.proofs.lemmas.Str.Parse.{IsNumeralModel, numerals_by_fold}
+use Rattle.words.specs.Words.{read_on, digits_within, loose, number_of}
 
 -- what is read of digits is their number, by std's account of numerals
 pub own : IsNumeralModel (λ ds. all_ascii_digits ds ≡ true) (read_on 0)
 own = numerals_by_fold _ (search rules) read_on (search rules)
-
-digits_ascii : (ds : List ℕ) → all_ascii_digits ds ≡ true → IsAscii ds
-digits_ascii [] e = IsAscii-nil
-digits_ascii (c ∷ cs) e =
-    let p = and_parts (is_ascii_digit c) (all_ascii_digits cs) e in
-    let d = p.0 in
-    IsAscii-cons c cs (grind (arith, nat_tests)) (digits_ascii cs p.1)
 
 -- a numeral grows with each digit
 read_on_ge : (n : ℕ) (cs : List ℕ) → n ≤ read_on n cs
 read_on_ge n [] = omega arith
 read_on_ge n (c ∷ cs) = omega (arith, read_on_ge (10 * n + (c - 48)) cs)
 
--- digits with no sign
-module _ (t : List ℕ) (s : loose t ≡ false) (m : get_or t 0 0 ≢ 45) where
-  plain_none : (all_ascii_digits t ≡ true → 0 < length t → read_on 0 t < 2 ^ 31 → ⊥) → None ≡ number_of t
-  plain_none n = grind (arith, nat_tests)
+-- the number that digits write after n, if it is at most `limit`
+abbrev pub on_within : ℕ → ℕ → List ℕ → Option ℕ
+on_within limit n ds = cond (all_ascii_digits ds && nat_le (read_on n ds) limit) (Some (read_on n ds)) None
 
-  plain : {E : Type 0} (r : Result ℤ E) → OkIff r ((all_ascii_digits t ≡ true) × (0 < length t) × (read_on 0 t < 2 ^ 31)) (pos (read_on 0 t)) → result_ok r ≡ number_of t
-  plain (Ok z) h = let e = h.1 in let d = h.0.0 in let l = h.0.1 in let f = h.0.2 in grind (arith, nat_tests)
-  plain (Err e) h = plain_none (λ d l f. h (d, l, f))
+on_stops : (limit n z : ℕ) (zs : List ℕ) → on_within limit n (z ∷ []) ≡ None → None ≡ on_within limit n (z ∷ zs)
+on_stops limit n z zs e = let g = read_on_ge (10 * n + (z - 48)) zs in grind (arith, nat_tests)
 
--- and after a minus
-module _ (ds : List ℕ) (s : loose (45 ∷ ds) ≡ false) where
-  minus_none : (all_ascii_digits ds ≡ true → 0 < length ds → read_on 0 ds ≤ 2 ^ 31 → ⊥) → None ≡ number_of (45 ∷ ds)
-  minus_none n = grind (arith, nat_tests)
+on_goes : (limit n z a : ℕ) (zs : List ℕ) → on_within limit n (z ∷ []) ≡ Some a → (a ≤ limit) × (on_within limit a zs ≡ on_within limit n (z ∷ zs))
+on_goes limit n z a zs e =
+    let k : a ≡ 10 * n + (z - 48) = grind (arith, nat_tests) in
+    (grind (arith, nat_tests), rw k (grind (arith, nat_tests)))
 
-minus_some : (c : ℕ) (cs : List ℕ) (z : ℤ) → loose (45 ∷ c ∷ cs) ≡ false → all_ascii_digits (c ∷ cs) ≡ true → read_on 0 (c ∷ cs) ≤ 2 ^ 31 → z ≡ neg_ℤ (pos (read_on 0 (c ∷ cs))) → Some z ≡ number_of (45 ∷ c ∷ cs)
-minus_some c cs z s d f e = let g = read_on_ge (10 * 0 + (c - 48)) cs in grind (arith, nat_tests)
+pub within_le : (limit n : ℕ) (ds : List ℕ) → Some n ≡ digits_within limit ds → n ≤ limit
+within_le limit n ds e = grind (arith, nat_tests)
 
-minus : (ds : List ℕ) → loose (45 ∷ ds) ≡ false → {E : Type 0} (r : Result ℤ E) → OkIff r ((all_ascii_digits ds ≡ true) × (0 < length ds) × (read_on 0 ds ≤ 2 ^ 31)) (neg_ℤ (pos (read_on 0 ds))) → result_ok r ≡ number_of (45 ∷ ds)
-minus ds s (Err e) h = minus_none ds s (λ d l f. h (d, l, f))
-minus [] s (Ok z) h = absurd (omega (arith, h.0.1))
-minus (c ∷ cs) s (Ok z) h = minus_some c cs z s h.0.0 h.0.2 h.1
+-- ---- digit by digit: s gives them, and g takes each one on
+module _ {S F : Type 0} (E : Type 0) (steps : S → Option (Bor ℕ) → S → Type 0) (g : Mut F (ℕ × (Bor ℕ × Unit {0})) (Option ℕ)) (J : F → Type 0) (limit : ℕ)
+    (takes : (f : F) (n : ℕ) (x : Bor ℕ) (r : Option ℕ) (q : F) → J f → n ≤ limit → Called g f (n, (x, tt)) r q → J q × (r ≡ on_within limit n (x.now ∷ []))) where
+  abbrev Goes : Option ℕ → ControlFlow E ℕ → Type 0
+  Goes r c = r ≡ continue_value c
 
--- ---- either of them
-pub parsed : (t : List ℕ) → loose t ≡ false → {E : Type 0} (r : Result ℤ E) → ParsesSigned w32 10 t r → result_ok r ≡ number_of t
-parsed t s r h = at t (eqb (get_or t 0 0) 45) refl s h
-  where
-    at : (t : List ℕ) (b : Bool) → eqb (get_or t 0 0) 45 ≡ b → loose t ≡ false → ParsesSigned w32 10 t r → result_ok r ≡ number_of t
-    at t false e s h = plain t s (eqb-false _ _ e) r (parse_signed_plain own w32 t r h (grind (arith, nat_tests)) (eqb-false _ _ e))
-    at [] true e s h = absurd (omega (arith, eqb-true 0 45 e))
-    at (x ∷ ds) true e s h =
-        let P : ℕ → Type 0 = λ y. loose (y ∷ ds) ≡ false → ParsesSigned w32 10 (y ∷ ds) r → result_ok r ≡ number_of (y ∷ ds) in
-        subst P (sym (eqb-true x 45 e)) (λ s h. minus ds s r (parse_signed_minus own w32 (45 ∷ ds) r h refl)) s h
+  whole : (ds : List ℕ) (s : S) (f : F) (n : ℕ) (r : Option ℕ) (u : S) → J f → n ≤ limit → AlwaysYields steps (λ y. y.now) s ds
+      → (xs : List (Bor ℕ)) (o : Option (Bor ℕ)) (j : F) (a : ℕ) → YieldsThen steps s xs o u → FoldsTo {P = F × ℕ} (TryFoldTurn g Goes) (f, n) xs (j, a)
+      → MatchOption o (Goes r (Continue a)) (λ x. (v : Option ℕ) × (h : F) × (e : E) × Called g j (a, (x, tt)) v h × Goes v (Break e) × (r ≡ None))
+      → r ≡ on_within limit n ds
+  whole [] s f n r u i b e [] None j a y c h = let k : n ≡ a = ap (λ (p : F × ℕ). p.1) c in grind (arith, nat_tests)
+  whole [] s f n r u i b e [] (Some x) j a y c h = absurd (e x u (subst (λ t. steps t (Some x) u) (sym y.1) y.2))
+  whole [] s f n r u i b e (x ∷ xs) o j a y c h = absurd (e x y.1.0 y.1.1)
+  whole (z ∷ zs) s f n r u i b e [] None j a y c h = absurd (e.0 u (subst (λ t. steps t None u) (sym y.1) y.2))
+  whole (z ∷ zs) s f n r u i b e [] (Some x) j a y c h =
+      let k : n ≡ a = ap (λ (p : F × ℕ). p.1) c in
+      let l : f ≡ j = ap (λ (p : F × ℕ). p.0) c in
+      let same = (e.1 x u (subst (λ t. steps t (Some x) u) (sym y.1) y.2)).0 in
+      let t = takes j a x h.0 h.1 (subst J l i) (omega arith) h.3 in
+      let none : on_within limit n (z ∷ []) ≡ None = rw (sym same, k, sym t.1) h.4 in
+      h.5 ∙ on_stops limit n z zs none
+  whole (z ∷ zs) s f n r u i b e (x ∷ xs) o j a y c h =
+      let m = e.1 x y.1.0 y.1.1 in
+      let t = takes f n x c.1.0 c.0.0 i b c.1.1 in
+      let some : on_within limit n (z ∷ []) ≡ Some c.0.1 = rw (sym m.0, sym t.1) c.1.2 in
+      let next = on_goes limit n z c.0.1 zs some in
+      whole zs y.1.0 c.0.0 c.0.1 r u t.0 next.0 m.1 xs o j a (y.0, y.1.2, y.2) c.2 h ∙ next.1
 
-pub not_utf8 : (t : List ℕ) → loose t ≡ false → (IsUtf8 t → ⊥) → None ≡ number_of t
-not_utf8 t s n = at t (eqb (get_or t 0 0) 45) refl s n
-  where
-    at : (t : List ℕ) (b : Bool) → eqb (get_or t 0 0) 45 ≡ b → loose t ≡ false → (IsUtf8 t → ⊥) → None ≡ number_of t
-    at t false e s n = plain_none t s (eqb-false _ _ e) (λ d l f. n (IsUtf8-from_ascii t (digits_ascii t d)))
-    at [] true e s n = absurd (omega (arith, eqb-true 0 45 e))
-    at (x ∷ ds) true e s n =
-        let P : ℕ → Type 0 = λ y. loose (y ∷ ds) ≡ false → (IsUtf8 (y ∷ ds) → ⊥) → None ≡ number_of (y ∷ ds) in
-        subst P (sym (eqb-true x 45 e)) (λ s n. minus_none ds s (λ d l f. n (IsUtf8-from_ascii (45 ∷ ds) (IsAscii-cons 45 ds (omega arith) (digits_ascii ds d))))) s n
+  pub digits_read : (ds : List ℕ) (s : S) (f : F) (r : Option ℕ) (u : S) → J f → YieldsList steps (λ y. y.now) s ds
+      → TryFoldsItems steps g Goes (λ _ r. r ≡ None) s f 0 r u → r ≡ digits_within limit ds
+  digits_read ds s f r u i e d = whole ds s f 0 r u i (omega arith) e.runs d.0 d.1 d.2 d.3 d.4 d.5 d.6
 
--- ---- of what std reads as text, only the value is kept
-pub read_text : {T E : Type 0} (P : T → Type 0) (Q : E → Type 0) (x : T) (r : Result T E) → MatchResult r P Q → result_ok r ≡ Some x → P x
-read_text P Q x (Ok y) h e = subst P (cc) h
-read_text P Q x (Err y) h e = absurd (let z : ◌≡◌ {A = ℕ} 0 1 = cc in omega arith)
-
-pub read_none : {T E : Type 0} (P : T → Type 0) (N : Type 0) (R : E → Type 0) (r : Result T E) → MatchResult r P (λ e. N × R e) → result_ok r ≡ None → N
-read_none P N R (Ok y) h e = absurd (let z : ◌≡◌ {A = ℕ} 0 1 = cc in omega arith)
-read_none P N R (Err y) h e = h.0
+-- ---- after a minus, no numeral is 0
+pub minus_some : (t : List ℕ) (m : ℕ) → loose t ≡ false → get_or t 0 0 ≡ 45 → 2 ≤ length t → Some m ≡ digits_within 2147483648 (drop 1 t) → Some (neg_ℤ (pos m)) ≡ number_of t
+minus_some [] m s f l e = absurd (omega (arith, l))
+minus_some (x ∷ []) m s f l e = absurd (omega (arith, l))
+minus_some (x ∷ c ∷ cs) m s f l e = let g = read_on_ge (10 * 0 + (c - 48)) cs in grind (arith, nat_tests)

@@ -1,6 +1,6 @@
 -- One write after another.
 use Rattle.std.proofs.Common.{◌≡◌, ◌+◌, ◌≤◌, true, Ok, Err, Result, subst, List, [], ◌++◌, ℕ, length, take, drop, sym, refl, ap, ◌∙◌, add-zero, arith}
-use Rattle.std.proofs.lemmas.List.{append_assoc, append-nil, length-append, drop-drop}
+use Rattle.std.proofs.lemmas.List.{append_assoc, append-nil, length-append, length-take-le, length-drop, drop-drop, take-append-drop, take_at, drop_at}
 use Rattle.std.proofs.lemmas.Bool.{le-leb, leb-true, cond-true}
 use Rattle.words.specs.declared.refusal.Refusal.{Refusal}
 use Rattle.words.specs.declared.page.Page.{Page}
@@ -28,6 +28,23 @@ wrote_then p ys q zs r a b = record {
     rest : drop r.len r.out.now ≡ drop r.len p.out.now
     rest = b.rest ∙ ap (λ n. drop n q.out.now) b.len ∙ sym (drop-drop (length zs) q.len q.out.now) ∙ ap (drop (length zs)) a.rest
         ∙ drop-drop (length zs) q.len p.out.now ∙ ap (λ n. drop n p.out.now) (sym b.len)
+
+-- ---- after the bytes from `at` on were written
+module _ (xs xs' ys : List ℕ) (at : ℕ) (room : at + length ys ≤ length xs) (before : take at xs' ≡ take at xs) (behind : drop at xs' ≡ ys ++ drop (at + length ys) xs) where
+  size : length (take at xs ++ ys) ≡ at + length ys
+  size = let le : at ≤ length xs = omega arith in simp (length-append, length-take-le)
+
+  whole : xs' ≡ (take at xs ++ ys) ++ drop (at + length ys) xs
+  whole = sym (take-append-drop at xs') ∙ ap (λ l. l ++ drop at xs') before ∙ ap (λ l. take at xs ++ l) behind ∙ sym (append_assoc (take at xs) ys (drop (at + length ys) xs))
+
+  pub same_size : length xs' ≡ length xs
+  same_size = let le : at ≤ length xs = omega arith in ap length whole ∙ simp (length-append, length-take-le, length-drop) (omega arith)
+
+  pub front_is : take (at + length ys) xs' ≡ take at xs ++ ys
+  front_is = ap (take (at + length ys)) whole ∙ take_at (take at xs ++ ys) (drop (at + length ys) xs) (at + length ys) size
+
+  pub rest_is : drop (at + length ys) xs' ≡ drop (at + length ys) xs
+  rest_is = ap (drop (at + length ys)) whole ∙ drop_at (take at xs ++ ys) (drop (at + length ys) xs) (at + length ys) size
 
 -- ---- on a page that has room
 pub prints : (p : Page) (ys : List ℕ) (q : Page) (r : Result (Unit {0}) Refusal) → Prints p ys q r → p.len + length ys ≤ length p.out.now → (r ≡ Ok tt) × Wrote p ys q

@@ -12,11 +12,15 @@ page_len p = p.len
 abbrev pub page_size : Page → ℕ
 page_size p = length p.out.now
 
--- a page over that buffer, with nothing on it
-pub record Begins (out : MutBor (List ℕ)) (p : Page) : Type 0 where
-  pub len : p.len ≡ 0
+-- a page over that buffer, on which what stands before `at` counts as written
+pub record BeginsAt (out : MutBor (List ℕ)) (at : ℕ) (p : Page) : Type 0 where
+  pub len : p.len ≡ at
   pub now : p.out.now ≡ out.now
   pub same_reference : p.out.ghost_name ≡ out.ghost_name
+
+-- the same with nothing on it
+abbrev pub Begins : MutBor (List ℕ) → Page → Type 0
+Begins out p = BeginsAt out 0 p
 
 -- ys was written next, and nothing else changed
 pub record Wrote (p : Page) (ys : List ℕ) (q : Page) : Type 0 where

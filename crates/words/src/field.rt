@@ -1,5 +1,6 @@
 // Fields: what is listed after a mark, each a word of its own.
-ghost use Rattle.std.specs.Prelude.{◌≡◌, ◌++◌};
+ghost use Rattle.std.specs.Prelude.{◌≡◌, ◌+◌, ◌≤◌, length};
+ghost use Rattle.std.specs.Fmt.{decimal};
 ghost use Rattle.words.specs.Shows.{show_word, field_said};
 
 use crate::name::Name;
@@ -15,17 +16,25 @@ pub enum Field {
     Handle(u8),
 }
 
+// How many digits the number has.
+pub(crate) fn digits(n: u32) -> usize
+    ensures value { result ≡ length (decimal n) }
+    ensures bound { result ≤ n + 1 }
+{
+    if n < 10 { 1 } else { digits(n / 10) + 1 }
+}
+
 impl Field {
-    // The letter of a register's word, and what is left of the word; numbers are written to `digits`.
-    pub(crate) fn parts<'a>(&'a self, digits: &'a mut itoa::Buffer) -> (&'a [u8], &'a [u8])
-        ensures { result.0.now ++ result.1.now ≡ show_word (field_said self.now) }
+    // How many bytes its word has.
+    pub(crate) fn width(&self) -> usize
+        ensures { result ≡ length (show_word (field_said self.now)) }
     {
         match self {
-            Field::Name(name) => (b"", name.as_bytes()),
-            Field::Integer(z) => (b"", digits.format(*z).as_bytes()),
-            Field::Natural(n) => (b"", digits.format(*n).as_bytes()),
-            Field::Value(n) => (b"v", digits.format(*n).as_bytes()),
-            Field::Handle(n) => (b"h", digits.format(*n).as_bytes()),
+            Field::Name(name) => name.as_bytes().len(),
+            Field::Integer(z) => usize::from(*z < 0) + digits(z.unsigned_abs()),
+            Field::Natural(n) => digits(*n),
+            Field::Value(n) => 1 + digits(u32::from(*n)),
+            Field::Handle(n) => 1 + digits(u32::from(*n)),
         }
     }
 }

@@ -1,10 +1,12 @@
 // A page: a buffer that is written from the front.
 ghost use Rattle.std.specs.Prelude.{◌≡◌, true, [], ◌∷◌, length};
-ghost use Rattle.words.specs.Shows.{show_field, show_marked, field_said};
-ghost use Rattle.words.specs.Pages.{Begins, Wrote, Put, fits, page_len, less, left};
+ghost use Rattle.std.specs.Fmt.{decimal, signed_decimal};
+ghost use Rattle.words.specs.Shows.{show_word, show_field, show_marked, field_said};
+ghost use Rattle.words.specs.Pages.{Begins, BeginsAt, Wrote, Put, fits, page_len, less, left};
 
-use crate::field::Field;
+use crate::field::{Field, digits};
 use crate::refusal::Refusal;
+use itoa::write_digits;
 
 // The bytes of `out`, of which the first `len` are written. Not std's `Cursor<&mut [u8]>`: its `write` does not say that
 // the reference stays the same, so its caller would learn nothing of `out`. Nor `write!`: what it ensures holds where
@@ -20,11 +22,7 @@ pub struct Page<'a> {
 fn after_field(room: usize, field: &Field) -> Option<usize>
     ensures { result ≡ less room (length (show_field (field_said field.now))) }
 {
-    let mut digits = itoa::Buffer::new();
-    let (letter, rest) = field.parts(&mut digits);
-    room.checked_sub(1)?
-        .checked_sub(letter.len())?
-        .checked_sub(rest.len())
+    room.checked_sub(1)?.checked_sub(field.width())
 }
 
 impl<'a> Page<'a> {
@@ -33,6 +31,13 @@ impl<'a> Page<'a> {
         ensures { Begins out.entry result }
     {
         Page { out, len: 0 }
+    }
+
+    // What stands before that place counts as written. Where the place lies behind the buffer, nothing fits.
+    pub fn at(out: &'a mut [u8], place: usize) -> Page<'a>
+        ensures { BeginsAt out.entry place result }
+    {
+        Page { out, len: place }
     }
 
     // How many bytes are written.
@@ -53,16 +58,68 @@ impl<'a> Page<'a> {
         *len = end;
     }
 
+    // The same for one byte.
+    fn push_byte(&mut self, b: u8)
+        requires { fits self.old (b ∷ []) ≡ true }
+        ensures { Wrote self.old (b ∷ []) self.new }
+    {
+        let Page { out, len } = self;
+        out[*len] = b;
+        *len += 1;
+    }
+
+    // The same for a number, whose digits are written in their place.
+    fn push_number(&mut self, n: u32)
+        requires { fits self.old (decimal n) ≡ true }
+        ensures { Wrote self.old (decimal n) self.new }
+    {
+        let Page { out, len } = self;
+        let end = *len + digits(n);
+        let _ = write_digits(u64::from(n), out, end);
+        *len = end;
+    }
+
+    // The same for a number with its sign.
+    fn push_integer(&mut self, z: i32)
+        requires { fits self.old (signed_decimal z) ≡ true }
+        ensures { Wrote self.old (signed_decimal z) self.new }
+    {
+        if z < 0 {
+            self.push_byte(b'-');
+        }
+        self.push_number(z.unsigned_abs());
+    }
+
+    // The same for a register's letter and number.
+    fn push_register(&mut self, letter: u8, n: u8)
+        requires { fits self.old (letter ∷ decimal n) ≡ true }
+        ensures { Wrote self.old (letter ∷ decimal n) self.new }
+    {
+        self.push_byte(letter);
+        self.push_number(u32::from(n));
+    }
+
+    // The same for a field's word.
+    fn push_word(&mut self, field: &Field)
+        requires { fits self.old (show_word (field_said field.now)) ≡ true }
+        ensures { Wrote self.old (show_word (field_said field.now)) self.new }
+    {
+        match field {
+            Field::Name(name) => self.push(name.as_bytes()),
+            Field::Integer(z) => self.push_integer(*z),
+            Field::Natural(n) => self.push_number(*n),
+            Field::Value(n) => self.push_register(b'v', *n),
+            Field::Handle(n) => self.push_register(b'h', *n),
+        }
+    }
+
     // The same for a space and a field.
     fn push_field(&mut self, field: &Field)
         requires { fits self.old (show_field (field_said field.now)) ≡ true }
         ensures { Wrote self.old (show_field (field_said field.now)) self.new }
     {
-        let mut digits = itoa::Buffer::new();
-        let (letter, rest) = field.parts(&mut digits);
-        self.push(b" ");
-        self.push(letter);
-        self.push(rest);
+        self.push_byte(b' ');
+        self.push_word(field);
     }
 
     // The same for a mark and fields.
@@ -100,6 +157,11 @@ impl<'a> Page<'a> {
     pub fn end_line(&mut self) -> Result<(), Refusal>
         ensures { Put self.old (10 ∷ []) self.new result }
     {
-        self.put_fields(b"\n", &[])
+        let Page { out, len } = self;
+        if *len >= out.len() {
+            return Err(Refusal::Small);
+        }
+        self.push_byte(b'\n');
+        Ok(())
     }
 }

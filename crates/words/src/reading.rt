@@ -1,10 +1,9 @@
 // Reading a word from the front of a line.
 ghost use Rattle.std.specs.Prelude.{◌≡◌, ◌==◌, take, drop, position};
-ghost use Rattle.words.specs.Words.{span, loose, number_of, word_of, said_word, said, read_word, unlent};
+ghost use Rattle.words.specs.Words.{span, digits_within, loose, number_of, word_of, said_word, said, read_word, unlent};
 
 use crate::refusal::Fault;
 use crate::spelling::is_name;
-use std::str;
 
 // A part of the text: a name is borrowed from it, numbers and registers are data. An enum can have no Model, so clauses
 // say `said`.
@@ -35,11 +34,25 @@ pub fn cut(text: &[u8], separator: u8) -> (&[u8], &[u8])
     }
 }
 
-// Whether a plus, a zero before more or -0 stands first: std's `parse` takes these, and no number begins so.
+// Whether a plus, a zero before more or -0 stands first: no number begins so.
 fn is_loose(bytes: &[u8]) -> bool
     ensures { result ≡ loose bytes.now }
 {
     matches!(bytes, [b'+', ..] | [b'0', _, ..] | [b'-', b'0', ..])
+}
+
+// The number that digits write, if it is at most `limit`. Not std's `parse`, which takes twice as long.
+fn digits_value(digits: &[u8], limit: u32) -> Option<u64>
+    ensures { result ≡ digits_within limit digits.now }
+{
+    let most = u64::from(limit);
+    digits.iter().try_fold(0, |n, b| {
+        if !b.is_ascii_digit() {
+            return None;
+        }
+        let m = 10 * n + u64::from(*b - b'0');
+        (m <= most).then_some(m)
+    })
 }
 
 // The number that the bytes write.
@@ -49,7 +62,11 @@ fn number(bytes: &[u8]) -> Option<i32>
     if is_loose(bytes) {
         return None;
     }
-    str::from_utf8(bytes).ok()?.parse().ok()
+    match bytes {
+        [] | [b'-'] => None,
+        [b'-', digits @ ..] => Some(-(digits_value(digits, 2147483648)? as i64) as i32),
+        _ => Some(digits_value(bytes, 2147483647)? as i32),
+    }
 }
 
 // The word that the bytes are.
