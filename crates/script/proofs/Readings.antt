@@ -1,10 +1,9 @@
 -- One line read into a draft, and what is left of the text.
-use Rattle.std.proofs.Common.{◌≡◌, ℕ, zero, suc, ◌+◌, ◌<◌, eqb, min, List, [], ◌∷◌, ◌++◌, length, None, Ok, Err, Result, sym, refl, ap, ◌∙◌, arith}
+use Rattle.std.proofs.Common.{◌≡◌, ℕ, zero, suc, ◌+◌, ◌<◌, eqb, min, List, [], ◌∷◌, ◌++◌, length, Ok, Err, Result, sym, refl, ap, ◌∙◌, arith}
 use Rattle.std.specs.List.{IsFirstMatchOrLen}
 use Rattle.std.proofs.lemmas.Bool.{eq-eqb, ne_eqb}
 use Rattle.std.proofs.lemmas.List.{append_assoc, append-nil, length-append}
 use Rattle.words.specs.declared.refusal.Fault.{Fault}
-use Rattle.lines.specs.declared.line.Line.{Line}
 use Rattle.lines.specs.Roles.{role}
 use Rattle.script.specs.Rules.{standing}
 use Rattle.script.specs.Texts.{pieces, none_left, read_piece, in_front, admitted, judged, read_on}
@@ -45,7 +44,7 @@ module _ (d d' : Made) (n end : ℕ) (t rest piece rest' : List ℕ) (here : Cut
   at_piece : reading d n rest ≡ behind d.lines (judged n d.standing (eqb (end + length piece) (length t)) (read_piece n piece) (λ l. read_on (n + 1) (standing d.standing (role l)) (pieces rest')))
   unfolding read_on
   at_piece =
-      ap (λ ps. behind d.lines (read_on n d.standing ps)) (cut_piece rest piece rest' here.i here.cut here.len here.some here.first)
+      ap (λ ps. behind d.lines (read_on n d.standing ps)) (cut_piece rest piece rest' here.i here.cut here.len here.first here.some)
       ∙ ap (λ b. behind d.lines (judged n d.standing b (read_piece n piece) (λ l. read_on (n + 1) (standing d.standing (role l)) (pieces rest')))) (sym last_piece)
 
   pub piece_refused : (e : Fault) → Reads d n piece (eqb (end + length piece) (length t)) d' (Err e) → reading d n rest ≡ Err e

@@ -1,26 +1,32 @@
 // Reading a text line by line into a draft.
-ghost use Rattle.std.specs.Prelude.{◌≡◌};
+ghost use Rattle.std.specs.Prelude.{◌≡◌, ◌+◌, ◌≤◌, length};
+ghost use Rattle.words.specs.Words.{span};
 ghost use Rattle.script.specs.Drafts.{reading, outcome, Reads};
 ghost use Rattle.script.specs.Texts.{read_piece as piece_read};
 
 use crate::draft::Draft;
 use line_reader::read_line;
 use lines::Line;
-use words::{Fault, Name, cut};
+use words::{Fault, Name};
 
-// Line `number` with its end, if it has one.
+// Line `number` with its end, if it has one: no byte but the last can be one.
 fn read_piece(bytes: &[u8], number: usize) -> Result<Line<Name>, Fault>
+    requires { length bytes.now ≤ span 10 bytes.now + 1 }
     ensures { result ≡ piece_read number bytes.now }
 {
-    match cut(bytes, b'\n') {
-        (line, [_]) => read_line(line, number),
-        _ => Err(Fault::broken(number)),
+    let Some((end, line)) = bytes.split_last() else {
+        return Err(Fault::broken(number));
+    };
+    if *end != b'\n' {
+        return Err(Fault::broken(number));
     }
+    read_line(line, number)
 }
 
 impl Draft {
     // Reads one line more.
     fn read_one(&mut self, bytes: &[u8], number: usize, last: bool) -> Result<(), Fault>
+        requires { length bytes.now ≤ span 10 bytes.now + 1 }
         ensures { Reads self.old number bytes.now last self.new result }
     {
         // not `?`: tried: a `Line<Name>` is then kept over the branch, and the check does not load what it holds (as in `keep`)

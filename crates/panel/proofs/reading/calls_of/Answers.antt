@@ -14,7 +14,7 @@ returns-in_err-ended_call c =
     let rest = c.loop-place.place-iterator.iter.rest.now in
     let step = c.in-Some.ensures.steps in
     let found = step.0.1.2 (λ b. eqb b 10) (answers_always _ _ _ (λ f a r g k. search (rules, of_calls))) in
-    let first = cut_piece rest c.in-Some.bytes.now c.next.new.self.iter.rest.now step.0.1.0 step.0.0 step.0.1.1 step.0.2 found.1 in
+    let first = cut_piece rest c.in-Some.bytes.now c.next.new.self.iter.rest.now step.0.1.0 step.0.0 step.0.1.1 found.1 step.0.2 in
     let p = err_from_is_err_and c.from_residual.result c.from_residual.ensures.1 in
     let here = sym c.loop-place.invariant ∙ ap (λ k. behind (vec_items c.loop-place.calls) (read_calls (k + 1) (pieces rest))) (sym step.1) in
     rw (p.1, p.2) (part_faulty (vec_items c.loop-place.calls) _ _ _ _ here (calls_on _ _ _ first (c.in-Some.place + 1)) _ (sym c.in_err-ended_call.ensures))
@@ -25,7 +25,7 @@ loop-place-preserved c =
     let left = c.next.new.self.iter.rest.now in
     let step = c.in-Some.ensures.steps in
     let found = step.0.1.2 (λ b. eqb b 10) (answers_always _ _ _ (λ f a r g k. search (rules, of_calls))) in
-    let first = cut_piece rest c.in-Some.bytes.now left step.0.1.0 step.0.0 step.0.1.1 step.0.2 found.1 in
+    let first = cut_piece rest c.in-Some.bytes.now left step.0.1.0 step.0.0 step.0.1.1 found.1 step.0.2 in
     let here = sym c.loop-place.invariant ∙ ap (λ k. behind (vec_items c.loop-place.calls) (read_calls (k + 1) (pieces rest))) (sym step.1) in
     let all = c.push.new.self.items in
     let next = step.2 ∙ ap (λ k. k + 1) (sym step.1) in

@@ -2,9 +2,15 @@ use Rattle.std.proofs.Common.{rules, of_calls, ◌+◌, eqb, sym, ap, ◌∙◌}
 use Rattle.std.proofs.lemmas.List.Sorted.{answers_always}
 use Rattle.std.proofs.lemmas.Result.{err_from_is_err_and}
 use Rattle.script.specs.Drafts.{reading}
-use Rattle.script.proofs.Pieces.{no_piece}
+use Rattle.script.proofs.Pieces.{no_piece, cut_short}
 use Rattle.script.proofs.Readings.{Cut, read_all, end_after, piece_refused, piece_taken}
 use Rattle.script.proofs.draft.Draft.read_text.Goals as goal
+
+pub read_one-requires : goal.read_one-requires
+read_one-requires c =
+    let step = c.in-Some.ensures.steps in
+    let found = step.0.1.2 (λ b. eqb b 10) (answers_always _ _ _ (λ f a r g k. search (rules, of_calls))) in
+    cut_short c.loop-place.place-iterator.iter.rest.now c.in-Some.bytes.now c.next.new.self.iter.rest.now step.0.1.0 step.0.0 step.0.1.1 found.1
 
 pub loop-place-preserved : goal.loop-place-preserved
 loop-place-preserved c =
