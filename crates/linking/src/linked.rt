@@ -1,5 +1,6 @@
 // The linked state of a script, and what linking answers where it refuses.
 ghost use Rattle.std.specs.Prelude.{◌≡◌, map, slice_index_or};
+ghost use Rattle.script.specs.Kept.{Kept};
 ghost use Rattle.linking.specs.Programs.{no_block};
 ghost use Rattle.linking.specs.Sound.{Sound};
 
@@ -9,12 +10,13 @@ use crate::stop::Stop;
 use crate::tables::Tables;
 use script::Read;
 
-// A script with its program: every number in that is in range, every target sound. A ghost field says so, and no Model,
-// whose invariant would not be seen where a program runs.
+// A script with its program: the script keeps the rules of the language, every number in the program is in range, every target
+// sound. Ghost fields say so, and no Model, whose invariant would not be seen where a program runs.
 #[derive(Drop)]
 pub struct Linked {
     pub(crate) script: Read,
     pub(crate) program: Tables,
+    ghost kept: { ∥ Kept script ∥₁ },
     ghost sound: { ∥ Sound program ∥₁ },
 }
 

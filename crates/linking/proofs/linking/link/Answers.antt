@@ -8,7 +8,7 @@ use Rattle.linking.proofs.linking.link.Goals as goal
 pub invariant_of-result : goal.invariant_of-result
 invariant_of-result c =
     let made = made_exactly c.args.script c.in-Ok.program c.lines.ensures.kept (ap link_script (sym c.lines.ensures.lines) ∙ c.in-Ok.ensures) in
-    record { sound = ∥∥₁_map made (λ p. p.1) }
+    record { kept = c.lines.ensures.kept; sound = ∥∥₁_map made (λ p. p.1) }
 
 pub returns-in-Ok-clause-exact : goal.returns-in-Ok-clause-exact
 returns-in-Ok-clause-exact c =
