@@ -17,11 +17,11 @@ use Rattle.std.proofs.lemmas.Bool.{cases_lt, eq-eqb, ne_eqb, and_from, and_left,
 use Rattle.pickers.specs.Sets.{has, cases, onward, first, OneOf}
 
 -- a case is in a set, or it is not
-has_in : (s k : ℕ) → k < 8 → bit_at s k ≡ 1 → has s k ≡ true
+pub has_in : (s k : ℕ) → k < 8 → bit_at s k ≡ 1 → has s k ≡ true
 unfolding has
 has_in s k l e = and_from _ _ (lt-ltb _ _ l) (eq-eqb _ _ e)
 
-has_out : (s k : ℕ) → bit_at s k ≡ 0 → has s k ≡ false
+pub has_out : (s k : ℕ) → bit_at s k ≡ 0 → has s k ≡ false
 unfolding has
 has_out s k e = and_right (nat_lt k 8) (bit_at s k == 1) (ne_eqb (bit_at s k) 1 (λ o. omega (arith, o)))
 
@@ -29,15 +29,15 @@ pub has_none : (k : ℕ) → has 0 k ≡ false
 has_none k = has_out 0 k (bit_at-zero k)
 
 -- the numbers from a on that pass a test: there are none, or the first is known
-none_pass : (p : ℕ → Bool) (n a : ℕ) → ((k : ℕ) → a ≤ k → p k ≡ false) → filter p (range_with_len a n) ≡ []
+none_pass : (p : ℕ → Bool) (n a : ℕ) → ((k : ℕ) → a ≤ k → k < a + n → p k ≡ false) → filter p (range_with_len a n) ≡ []
 none_pass p zero a h = refl
-none_pass p (suc n) a h = rw (h a (omega arith)) (none_pass p n (a + 1) (λ k l. h k (omega arith)))
+none_pass p (suc n) a h = rw (h a (omega arith) (omega arith)) (none_pass p n (a + 1) (λ k l m. h k (omega arith) (omega arith)))
 
-first_passes : (p : ℕ → Bool) (n a k : ℕ) → a ≤ k → k < a + n → ((i : ℕ) → i < k → p i ≡ false) → p k ≡ true
+first_passes : (p : ℕ → Bool) (n a k : ℕ) → a ≤ k → k < a + n → ((i : ℕ) → a ≤ i → i < k → p i ≡ false) → p k ≡ true
     → first (filter p (range_with_len a n)) ≡ Some k
 first_passes p zero a k l m h e = absurd (omega arith)
 first_passes p (suc n) a k l m h e = elim (cases_lt a k) [
-  | inl b ↦ rw (h a b) (first_passes p n (a + 1) k (omega arith) (omega arith) h e)
+  | inl b ↦ rw (h a (omega arith) b) (first_passes p n (a + 1) k (omega arith) (omega arith) (λ i c d. h i (omega arith) d) e)
   | inr b ↦ let q : a ≡ k = omega arith in rw q (rw e refl)
 ]
 
@@ -73,7 +73,7 @@ onward_empty j = refl
 -- an empty set has no case
 pub cases_empty : cases 0 ≡ []
 unfolding cases
-cases_empty = none_pass (has 0) 8 0 (λ k _. has_none k)
+cases_empty = none_pass (has 0) 8 0 (λ k _ _. has_none k)
 
 -- the digits of a number from place j on
 bit_from : (s j k : ℕ) → j ≤ k → bit_at s k ≡ bit_at (s / 2 ^ j) (k - j)
@@ -99,7 +99,7 @@ from_found s j p l =
     ] in
     ap first (both_tests (has s) (nat_le j) (range_with_len 0 8))
     ∙ first_passes (λ k. has s k && nat_le j k) 8 0 (j + t) (omega arith) short
-    (λ i m. passed_over s j i (λ n. bit_from s j i n ∙ low.2 (i - j) (omega arith)))
+    (λ i _ m. passed_over s j i (λ n. bit_from s j i n ∙ low.2 (i - j) (omega arith)))
     (and_from _ _ (has_in s (j + t) short bit) (le-leb j (j + t) (omega arith)))
 
 pub from_within : (s j : ℕ) → 0 < s / 2 ^ j → s < 2 ^ 8 → has s (j + trailing_zeros w8 (s / 2 ^ j)) ≡ true
@@ -110,7 +110,7 @@ unfolding cases onward
 from_none s j e =
     both_tests (has s) (nat_le j) (range_with_len 0 8)
     ∙ none_pass (λ k. has s k && nat_le j k) 8 0
-    (λ k _. passed_over s j k (λ l. bit_from s j k l ∙ ap (λ n. bit_at n (k - j)) e ∙ bit_at-zero (k - j)))
+    (λ k _ _. passed_over s j k (λ l. bit_from s j k l ∙ ap (λ n. bit_at n (k - j)) e ∙ bit_at-zero (k - j)))
 
 pub from_past : (s j : ℕ) → s < 2 ^ 8 → 8 ≤ j → first (onward j (cases s)) ≡ None
 from_past s j l h = ap first (from_none s j (div-eq_of_lt (le_trans l (pow_mono h))))
